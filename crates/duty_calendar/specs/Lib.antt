@@ -1,0 +1,5 @@
+pub mod Calendar
+pub mod Forms
+pub mod Minutes
+pub mod Events
+pub mod Limits
