@@ -1,0 +1,6 @@
+pub mod Counting
+pub mod Lines
+pub mod Soundness
+pub mod Greatest
+pub mod Turn
+pub mod Walk

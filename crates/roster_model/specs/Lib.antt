@@ -1,0 +1,13 @@
+pub mod Ascending
+pub mod Decided
+pub mod Spans
+pub mod Valid
+pub mod Timelines
+pub mod Filters
+pub mod Scores
+pub mod Legality
+pub mod Rosters
+pub mod Goals
+pub mod Closing
+pub mod Walk
+pub mod Awards

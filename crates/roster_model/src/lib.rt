@@ -1,0 +1,23 @@
+//! Bids, lines, rosters, goals, nodes and proofs, and when an award is accepted.
+#![tactic(auto)]
+
+mod award;
+mod bid;
+mod copied;
+mod entry;
+mod goal;
+mod laws;
+mod line;
+mod node;
+mod problem;
+mod proof;
+
+pub use award::{Awarded, Cause, Certificate, Denial, Reasons, Shown};
+pub use bid::{Atom, Bid, Filter, Test, Wish};
+pub use entry::Entry;
+pub use goal::{BidRef, Goal};
+pub use laws::{best_is_greatest, closed_is_hopeless};
+pub use line::{Line, Roster};
+pub use node::{Decision, Node, NodeFault};
+pub use problem::Problem;
+pub use proof::{Item, Lens, Proof, Window, WindowKind};
