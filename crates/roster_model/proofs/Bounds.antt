@@ -15,7 +15,8 @@ use Rattle.roster_model.specs.declared.problem.Problem.{Problem}
 use Rattle.roster_model.specs.Ascending.{ascends_from, is_ascending}
 use Rattle.roster_model.specs.Timelines.{credit_of}
 use Rattle.roster_model.specs.Scores.{is_granting, score_of}
-use Rattle.roster_model.specs.Valid.{IsBid, IsFiled, IsMember, IsPairing}
+use Rattle.duty_calendar.specs.Checks.{IsFiled, IsMember, IsPairing}
+use Rattle.roster_model.specs.Valid.{IsBid}
 
 -- an ascending list of numbers below a bound is no longer than the bound
 ascends-length : (xs : List ℕ) (low n : ℕ) → ascends_from low xs ≡ true → All (λ x. x < n) xs → low ≤ n → length xs + low ≤ n
@@ -72,10 +73,10 @@ credit_bound problem member line up known =
     let month = problem.valid.month in
     omega (
       arith,
-      fixed-credit problem.base.rules.horizon problem.base.members member month.each_member,
-      line-credit problem.base.rules.horizon problem.base.pairings line month.each_pairing,
+      fixed-credit problem.base.rules.horizon problem.base.members member month.members_form.each,
+      line-credit problem.base.rules.horizon problem.base.pairings line month.pairings_form.each,
       ascending-length line (length problem.base.pairings) up known,
-      month.few_pairings,
+      month.pairings_form.few,
     )
 
 -- what weighs no more than the bids of one member
