@@ -4,3 +4,5 @@ pub mod Soundness
 pub mod Greatest
 pub mod Turn
 pub mod Walk
+pub mod Parts
+pub mod Orders
