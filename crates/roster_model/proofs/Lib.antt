@@ -6,3 +6,5 @@ pub mod Turn
 pub mod Walk
 pub mod SpanLemmas
 pub mod Bounds
+pub mod Parts
+pub mod Orders
