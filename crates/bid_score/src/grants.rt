@@ -5,7 +5,7 @@ ghost use Rattle.roster_model.specs.Filters.{is_kept};
 ghost use Rattle.roster_model.specs.Scores.{is_flown, is_granting, is_granted, bids_of, score_of};
 ghost use Rattle.roster_model.specs.Timelines.{credit_of};
 
-use crate::credit::credit_of;
+use crate::credits::credit_of;
 use crate::free::{days_off, is_free};
 use roster_model::{Bid, Filter, Line, Problem, Wish, holds};
 

@@ -6,7 +6,7 @@ ghost use Rattle.roster_model.specs.Timelines.{credit_of};
 
 use crate::fixed::fixed_of;
 use duty_calendar::Event;
-use roster_model::Problem;
+use roster_model::{Line, Problem};
 
 fn fixed_credit(events: &[Event]) -> u32
     requires room { sum_by (λ e. e.credit) events.now < 2 ^ 32 }
@@ -40,4 +40,14 @@ pub fn credit_of(problem: &Problem, member: u32, line: &[u32]) -> u32
     ensures { result ≡ credit_of problem.now member line.now }
 {
     fixed_credit(fixed_of(problem, member)) + line_credit(problem, line)
+}
+
+/// The credit of a line in minutes, with that of the member's fixed events.
+#[tactic(auto, using(roster_model::proofs::Bounds::credit_bound))]
+pub fn credit(problem: &Problem, member: u32, line: &Line) -> u32
+    requires member { member < length problem.now.base.members }
+    requires known { All (λ p. p < length problem.now.base.pairings) line.now }
+    ensures value { result ≡ credit_of problem.now member line.now }
+{
+    credit_of(problem, member, line.pairings())
 }
