@@ -1,0 +1,15 @@
+pub mod Both
+pub mod Laws
+pub mod Least
+pub mod LeastLaws
+pub mod Latest
+pub mod LatestLaws
+pub mod Span
+pub mod SpanLaws
+pub mod Pair
+pub mod PairLaws
+pub mod Mask
+pub mod MaskLaws
+pub mod Usage
+pub mod CounterLaws
+pub mod UsageLaws

@@ -1,0 +1,138 @@
+-- The arcs that lead to a place, and how many there are.
+use Rattle.std.proofs.Common.{◌≡◌, ◌≢◌, ℕ, ◌+◌, ◌*◌, ◌<◌, ◌≤◌, List, [], ◌∷◌, ◌++◌, Bool, true, false, cond, Some, inl, inr, refl, sym, ◌∙◌, ap, subst, arith, length, length-append, take, get_or, eq-eqb, set, map, Vec}
+use Rattle.std.specs.declared.alloc.Global.{Global}
+use Rattle.std.specs.Prelude.{Contains, slice_get, All, count_by, ◌==◌, nat_lt, option_map}
+use Rattle.std.proofs.lemmas.Bool.Decides.{nat_tests}
+use Rattle.std.proofs.lemmas.Option.{slice_get_read, slice_get_within, slice_get-map}
+use Rattle.std.proofs.lemmas.List.{map-set}
+use Rattle.std.proofs.Math.Seq.{take-length}
+use Rattle.std.proofs.lemmas.List.Elements.{All-nil, All-push, All-map, All-contains, Contains-push, Contains-append_left}
+use Rattle.std.proofs.lemmas.List.Sums.{count_by_more_yes, count_by_more_no}
+use Rattle.std.proofs.lemmas.List.Recursion.{is_count_by}
+use Rattle.std.proofs.Math.Nat.{mul-le-mul_left}
+use Rattle.label_setter.proofs.ListReads.{below_or_at, contains_read, same_or_not, same_some, set_read_same, set_read_other}
+use Rattle.label_setter.specs.declared.graph.Arc.{Arc}
+use Rattle.label_setter.specs.Graphs.{FitsPlaces, IsGraph}
+use Rattle.label_setter.specs.Arrivals.{ArrivesAt, Arriving}
+
+test_false : (a b : ℕ) → a ≢ b → (a == b) ≡ false
+test_false a b h = grind (arith, nat_tests)
+
+abbrev tally : {X : Type 0} → (X → Bool) → List X → ℕ
+tally p [] = 0
+tally p (x ∷ xs) = cond (p x) (1 + tally p xs) (tally p xs)
+
+tally_is : {X : Type 0} (p : X → Bool) (xs : List X) → tally p xs ≡ count_by p xs
+tally_is p xs = is_count_by (tally p) p refl (λ y ys. refl) xs
+
+tests_next : (t p a b c : ℕ) → a ≡ b + c → cond (nat_lt t (p + 1)) (1 + a) a ≡ cond (nat_lt t p) (1 + b) b + cond (t == p) (1 + c) c
+tests_next t p a b c e = grind (arith, nat_tests)
+
+pub record Listed {S : Type 0} (arcs : List (Arc S)) (place i : ℕ) (numbers : List ℕ) : Type 0 where
+  pub listed : (number : ℕ) (arc : Arc S) → number < i → slice_get arcs number ≡ Some arc → arc.to ≡ place → Contains numbers number
+  pub right : All (ArrivesAt arcs place) numbers
+  pub count : length numbers ≡ count_by (λ arc. arc.to == place) (take i arcs)
+
+module _ {S : Type 0} (arcs : List (Arc S)) (place : ℕ) where
+  pub Listed-start : Listed arcs place 0 []
+  Listed-start = record { listed = λ number arc l is to. absurd (omega arith); right = All-nil (ArrivesAt arcs place); count = refl }
+
+  pub Listed-yes : (i : ℕ) (numbers : List ℕ) (arc : Arc S) → i < length arcs → arc ≡ get_or arcs i arc → arc.to ≡ place → Listed arcs place i numbers → Listed arcs place (i + 1) (numbers ++ i ∷ [])
+  Listed-yes i numbers arc within read to so_far =
+      let is : slice_get arcs i ≡ Some arc = slice_get_read arcs (length arcs) i arc refl within read in
+      let passes : ((get_or arcs i arc).to == place) ≡ true = subst (λ (a : Arc S). (a.to == place) ≡ true) read (eq-eqb arc.to place to) in
+      record {
+        listed = λ number other l other_is other_to. elim (below_or_at number i l) [
+          | inl earlier ↦ Contains-append_left numbers (i ∷ []) number (so_far.listed number other earlier other_is other_to)
+          | inr now ↦ subst (λ n. Contains (numbers ++ i ∷ []) n) (sym now) (Contains-push numbers i)
+        ];
+        right = All-push (ArrivesAt arcs place) numbers i so_far.right (record { arc = arc; is = is; to = to });
+        count = simp length-append (ap (λ n. n + 1) so_far.count ∙ sym (count_by_more_yes (λ (a : Arc S). a.to == place) arcs i arc within passes));
+      }
+
+  pub Listed-no : (i : ℕ) (numbers : List ℕ) (arc : Arc S) → i < length arcs → arc ≡ get_or arcs i arc → arc.to ≢ place → Listed arcs place i numbers → Listed arcs place (i + 1) numbers
+  Listed-no i numbers arc within read other_place so_far =
+      let is : slice_get arcs i ≡ Some arc = slice_get_read arcs (length arcs) i arc refl within read in
+      let fails : ((get_or arcs i arc).to == place) ≡ false = subst (λ (a : Arc S). (a.to == place) ≡ false) read (test_false arc.to place other_place) in
+      record {
+        listed = λ number other l other_is other_to. elim (below_or_at number i l) [
+          | inl earlier ↦ so_far.listed number other earlier other_is other_to
+          | inr now ↦ (
+              let same : other ≡ arc = same_some _ other arc other_is (subst (λ n. slice_get arcs n ≡ Some arc) (sym now) is) in
+              absurd (other_place (ap (λ (a : Arc S). a.to) (sym same) ∙ other_to)))
+        ];
+        right = so_far.right;
+        count = so_far.count ∙ sym (count_by_more_no (λ (a : Arc S). a.to == place) arcs i arc within fails);
+      }
+
+  pub Listed-all : (numbers : List ℕ) → Listed arcs place (length arcs) numbers → Arriving arcs place numbers
+  Listed-all numbers all = record {
+    listed = λ number arc is to. all.listed number arc (slice_get_within arcs number arc is) is to;
+    right = all.right;
+    count = all.count ∙ ap (count_by (λ (arc : Arc S). arc.to == place)) (take-length arcs);
+  }
+
+  tally_next : (xs : List (Arc S)) → tally (λ arc. nat_lt arc.to (place + 1)) xs ≡ tally (λ arc. nat_lt arc.to place) xs + tally (λ arc. arc.to == place) xs
+  tally_next [] = omega arith
+  tally_next (x ∷ xs) = tests_next x.to place _ _ _ (tally_next xs)
+
+  -- the arcs below the next place
+  pub count_next : (xs : List (Arc S)) → count_by (λ arc. nat_lt arc.to (place + 1)) xs ≡ count_by (λ arc. nat_lt arc.to place) xs + count_by (λ arc. arc.to == place) xs
+  count_next xs =
+      let all = tally_is (λ (arc : Arc S). nat_lt arc.to (place + 1)) xs in
+      let earlier = tally_is (λ (arc : Arc S). nat_lt arc.to place) xs in
+      let here = tally_is (λ (arc : Arc S). arc.to == place) xs in
+      let sum = tally_next xs in
+      omega arith
+
+list_there : (lists : List (Vec ℕ Global)) (place : ℕ) (list : Vec ℕ Global) → place < length lists → list ≡ get_or lists place list → slice_get (map (λ l. l.items) lists) place ≡ Some list.items
+list_there lists place list within read =
+    slice_get-map (λ (l : Vec ℕ Global). l.items) lists place ∙ ap (option_map (λ (l : Vec ℕ Global). l.items)) (slice_get_read lists (length lists) place list refl within read)
+
+-- the list of one place
+pub arriving_there : {S : Type 0} (arcs : List (Arc S)) (lists : List (Vec ℕ Global)) (places place : ℕ) (list : Vec ℕ Global) → length lists ≡ places → place < places → list ≡ get_or lists place list → ((p : ℕ) (numbers : List ℕ) → slice_get (map (λ l. l.items) lists) p ≡ Some numbers → Arriving arcs p numbers) → Arriving arcs place list.items
+arriving_there arcs lists places place list count within read each = each place list.items (list_there lists place list (omega (arith, count, within)) read)
+
+-- the lists of all places, after the first arcs
+pub record Grouped {S : Type 0} (arcs : List (Arc S)) (i : ℕ) (lists : List (List ℕ)) : Type 0 where
+  pub each : (place : ℕ) (numbers : List ℕ) → slice_get lists place ≡ Some numbers → Listed arcs place i numbers
+
+module _ {S : Type 0} (arcs : List (Arc S)) where
+  pub Grouped-start : (lists : List (Vec ℕ Global)) → All (λ list. list.items ≡ []) lists → Grouped arcs 0 (map (λ list. list.items) lists)
+  Grouped-start lists empty = record {
+    each = λ place numbers is.
+        let none : numbers ≡ [] = All-contains (λ (ns : List ℕ). ns ≡ []) (map (λ list. list.items) lists) numbers (All-map (λ (ns : List ℕ). ns ≡ []) (λ (list : Vec ℕ Global). list.items) lists empty) (contains_read (map (λ list. list.items) lists) place numbers is) in
+        subst (Listed arcs place 0) (sym none) (Listed-start arcs place);
+  }
+
+  pub Grouped-takes : (lists : List (List ℕ)) (i : ℕ) (arc : Arc S) (old : List ℕ) → i < length arcs → arc ≡ get_or arcs i arc → slice_get lists arc.to ≡ Some old → Grouped arcs i lists → Grouped arcs (i + 1) (set lists arc.to (old ++ i ∷ []))
+  Grouped-takes lists i arc old within read old_is so_far = record {
+    each = λ place numbers is. elim (same_or_not place arc.to) [
+      | inl same ↦ (
+          let new_is : old ++ i ∷ [] ≡ numbers = set_read_same lists arc.to (old ++ i ∷ []) numbers (subst (λ p. slice_get (set lists arc.to (old ++ i ∷ [])) p ≡ Some numbers) same is) in
+          subst (Listed arcs place (i + 1)) new_is
+          (Listed-yes arcs place i old arc within read (sym same) (so_far.each place old (subst (λ p. slice_get lists p ≡ Some old) (sym same) old_is))))
+      | inr other ↦ Listed-no arcs place i numbers arc within read (λ e. other (sym e)) (so_far.each place numbers (set_read_other lists arc.to place (old ++ i ∷ []) numbers other is))
+    ];
+  }
+
+  pub Grouped-adds : (lists : List (Vec ℕ Global)) (places i : ℕ) (arc : Arc S) (list new : Vec ℕ Global) → All (FitsPlaces places) arcs → length lists ≡ places → i < length arcs → arc ≡ get_or arcs i arc → list ≡ get_or lists arc.to list → new.items ≡ list.items ++ i ∷ [] → Grouped arcs i (map (λ list. list.items) lists)
+      → Grouped arcs (i + 1) (map (λ list. list.items) (set lists arc.to new))
+  Grouped-adds lists places i arc list new fit count within read list_read adds so_far =
+      let fits : FitsPlaces places arc = subst (FitsPlaces places) (sym read) (fit i arc within) in
+      let inside : arc.to < length lists = (let end = fits.within in omega arith) in
+      let list_is = list_there lists arc.to list inside list_read in
+      rw (map-set (λ (l : Vec ℕ Global). l.items) lists arc.to new, adds) (Grouped-takes (map (λ (l : Vec ℕ Global). l.items) lists) i arc list.items within read list_is so_far)
+
+pub steps_next : (s0 s1 s2 most a b : ℕ) → s1 ≤ s0 + most * a → s2 ≤ s1 + most * b → s2 ≤ s0 + most * (a + b)
+steps_next s0 s1 s2 most a b p q = omega arith
+
+pub steps_within : (s0 s1 most a n : ℕ) → s1 ≤ s0 + most * a → a ≤ n → s1 ≤ s0 + most * n
+steps_within s0 s1 most a n p q = omega (arith, mul-le-mul_left most q)
+
+pub fits_any : {S : Type 0} (places : ℕ) (arcs : List (Arc S)) → IsGraph places arcs → All (FitsPlaces 2000) arcs
+fits_any places arcs graph k d within =
+    let fits = graph.arcs_fit k d within in
+    let most = graph.most in
+    let below = fits.within in
+    record { forward = fits.forward; within = omega arith; gain_low = fits.gain_low; gain_high = fits.gain_high }

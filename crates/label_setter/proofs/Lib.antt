@@ -1,0 +1,15 @@
+pub mod ListReads
+pub mod GraphLemmas
+pub mod Keep
+pub mod Exact
+pub mod Taking
+pub mod Rows
+pub mod Places
+pub mod TableRows
+pub mod RoomLemmas
+pub mod Crowds
+pub mod ArrivingArcs
+pub mod StepCount
+pub mod Best
+pub mod Trace
+pub mod Theorem

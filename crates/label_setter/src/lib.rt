@@ -1,0 +1,19 @@
+//! The exact maximum over the feasible chains of a graph, by labels.
+//!
+//! Arcs lead from places to later ones. A chain of arcs from the source to the sink is feasible where each arc's step
+//! extends the resource that the chain has come to, and the last resource is done. Place by place the setter keeps the
+//! labels of chains, each with its gain and resource, and lets go what another label at the same place dispenses with.
+#![tactic(auto)]
+
+mod arrivals;
+mod graph;
+mod labels;
+mod setter;
+mod table;
+mod winner;
+
+pub use graph::{Arc, Graph};
+pub use setter::{Priced, SetterFault, set_labels, set_labels_in};
+
+#[cfg(test)]
+mod tests;
