@@ -15,13 +15,13 @@ least_breaks Keeps events report breach keeps =
     let P : Event → Type 0 = λ e. is_due e ≡ true → Keeps e.report in
     breach.broken (subst Keeps at.4.1 ((subst P at.3 (keeps at.0 at.1 at.2)) at.4.0))
 
-over_breaks : (test : ℕ → Bool) (width limit stop start : ℕ) → IsOver test width limit stop start → KeepsWindows test width limit stop → ⊥
+pub over_breaks : (test : ℕ → Bool) (width limit stop start : ℕ) → IsOver test width limit stop start → KeepsWindows test width limit stop → ⊥
 over_breaks test width limit stop start over keeps =
     let bound : count_between test start (start + width) ≤ limit = keeps start over.1.window.early over.1.window.late in
     let same : count_between test start (start + width) ≡ over.0 = over.1.total in
     omega (arith, over.2)
 
-year_breaks : (test : ℕ → Bool) (limit days day : ℕ) → IsYearOver test limit days day → KeepsYears test limit days → ⊥
+pub year_breaks : (test : ℕ → Bool) (limit days day : ℕ) → IsYearOver test limit days day → KeepsYears test limit days → ⊥
 year_breaks test limit days day over keeps =
     let first = over.1.year.0 in
     let is = over.1.year.1 in
