@@ -3,3 +3,4 @@ pub mod Forms
 pub mod Minutes
 pub mod Events
 pub mod Limits
+pub mod Checks

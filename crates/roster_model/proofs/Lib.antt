@@ -4,3 +4,7 @@ pub mod Soundness
 pub mod Greatest
 pub mod Turn
 pub mod Walk
+pub mod SpanLemmas
+pub mod Bounds
+pub mod Parts
+pub mod Orders

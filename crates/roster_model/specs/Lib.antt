@@ -2,6 +2,7 @@ pub mod Ascending
 pub mod Decided
 pub mod Spans
 pub mod Valid
+pub mod Orders
 pub mod Timelines
 pub mod Filters
 pub mod Scores

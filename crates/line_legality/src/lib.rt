@@ -1,0 +1,18 @@
+//! Legal lines and complete rosters, and the first rule that fails.
+#![tactic(auto)]
+
+mod credit;
+mod free_days;
+mod illegal;
+mod judging;
+mod limits;
+mod overlap;
+mod parts;
+mod rosters;
+mod shortfall;
+mod spans;
+
+pub use illegal::Illegal;
+pub use judging::legal;
+pub use rosters::complete;
+pub use shortfall::RosterFault;

@@ -1,0 +1,7 @@
+pub mod Overlaps
+pub mod Windows
+pub mod Rests
+pub mod Apart
+pub mod Breaks
+pub mod Recent
+pub mod Years

@@ -1,0 +1,19 @@
+//! The limits of 14 CFR Part 117 on the events of one member. No call takes memory.
+#![tactic(auto)]
+
+mod broken;
+mod first;
+mod overlap;
+mod peak;
+mod rest;
+mod search;
+#[cfg(test)]
+mod tests;
+mod year;
+
+pub use broken::Breach;
+pub use first::breach;
+pub use peak::{Minutes, Peak};
+pub use rest::{free30_breach, rest_breach};
+pub use search::window_peak;
+pub use year::year_peak;

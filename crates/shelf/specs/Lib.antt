@@ -1,0 +1,10 @@
+pub mod Names
+pub mod Tallies
+pub mod Causes
+pub mod Files
+pub mod Puts
+pub mod Streams
+pub mod MemoryShelf
+pub mod MemorySink
+pub mod FolderShelf
+pub mod OutSink

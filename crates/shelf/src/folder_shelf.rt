@@ -1,0 +1,132 @@
+//! The files of a folder.
+ghost use Rattle.std.specs.Prelude.{◌≡◌, None};
+ghost use Rattle.shelf.specs.Tallies.{no_faults};
+
+use crate::fault::ShelfFault;
+use crate::streams::{Unread, read_rest, write_rest};
+use crate::tally::Tally;
+use crate::traits::Shelf;
+use std::alloc::{AllocError, Global};
+use std::fs::Files;
+use std::io::ErrorKind;
+use std::{fs, io};
+
+/// Reads and writes the files of one folder. It tells nothing of what they hold.
+#[derive(Drop)]
+pub struct FolderShelf<'a, R> {
+    files: &'a R,
+    folder: String,
+    tally: Tally,
+}
+
+impl<'a, R: Files> FolderShelf<'a, R> {
+    ghost use Rattle.shelf.specs.FolderShelf.{tally_of};
+
+    /// Nothing has gone wrong. An empty folder is the one that the program runs in.
+    pub fn new(files: &'a R, folder: String) -> Self
+        ensures tally { tally_of result ≡ no_faults }
+    {
+        FolderShelf {
+            files,
+            folder,
+            tally: Tally::new(),
+        }
+    }
+
+    // Where the named file lies.
+    fn path(&self, alloc: Global, name: &str) -> Result<String, AllocError> {
+        if self.folder.is_empty() {
+            return String::from_str(alloc, name);
+        }
+        format!(in alloc; "{}/{}", self.folder, name)
+    }
+}
+
+// Why a file was not opened.
+fn unopened(error: io::Error) -> Unread {
+    match error.kind() {
+        ErrorKind::NotFound => Unread::Missing,
+        _ => Unread::Failed,
+    }
+}
+
+impl<R: Files> Shelf for FolderShelf<'_, R> {
+    ghost use Rattle.shelf.specs.FolderShelf.{tally_of};
+
+    ghost holds = { λ _. None };
+
+    ghost tally = { tally_of };
+
+    fn read(&mut self, alloc: Global, name: &str, limit: u64) -> Result<Vec<u8>, ShelfFault> {
+        let path = self.path(alloc, name)?;
+        let read = match fs::open(self.files, path.as_str()) {
+            Ok(mut file) => read_rest(alloc, &mut file, limit),
+            Err(error) => Err(unopened(error)),
+        };
+        match read {
+            Ok(bytes) => Ok(bytes),
+            Err(Unread::NoMemory) => Err(ShelfFault::NoMemory),
+            Err(Unread::Missing) => {
+                self.tally.missed(name);
+                Err(ShelfFault::Missing)
+            }
+            Err(Unread::TooLong) => {
+                self.tally.found_long(name);
+                Err(ShelfFault::TooLong)
+            }
+            Err(Unread::Failed) => {
+                self.tally.read_failed(name);
+                Err(ShelfFault::ReadFailed)
+            }
+        }
+    }
+
+    fn write(&mut self, alloc: Global, name: &str, bytes: &[u8]) -> Result<(), ShelfFault> {
+        let path = self.path(alloc, name)?;
+        let wrote = match fs::create(self.files, path.as_str()) {
+            Ok(mut file) => write_rest(&mut file, bytes),
+            Err(error) => Err(error),
+        };
+        match wrote {
+            Ok(()) => Ok(()),
+            Err(_) => {
+                self.tally.write_failed(name);
+                Err(ShelfFault::WriteFailed)
+            }
+        }
+    }
+}
+
+#[cfg(test)]
+mod tests {
+    use super::*;
+    use std::test::Fail;
+
+    // A test begins in an empty folder.
+    #[test]
+    fn keeps_what_was_written(rt: HostRuntime) -> Result<(), Fail> {
+        let alloc = rt.alloc();
+        let mut shelf = FolderShelf::new(&rt, String::from_str(alloc, ".")?);
+        assert_eq!(rt; shelf.read(alloc, "a", 9).err(), Some(ShelfFault::Missing));
+        shelf.write(alloc, "a", b"0123456789")?;
+        assert_eq!(rt;
+            shelf.read(alloc, "a", 10)?.as_slice(),
+            b"0123456789".as_slice()
+        );
+        assert_eq!(rt; shelf.read(alloc, "a", 9).err(), Some(ShelfFault::TooLong));
+        assert_eq!(rt;
+            shelf.read(alloc, "..", 9).err(),
+            Some(ShelfFault::ReadFailed)
+        );
+        assert_eq!(rt;
+            shelf.write(alloc, "..", b"1").err(),
+            Some(ShelfFault::WriteFailed)
+        );
+        let tally = &shelf.tally;
+        assert_eq!(rt;
+            (tally.faults, tally.fails, tally.misses, tally.longs),
+            (1, 1, 1, 1)
+        );
+        Ok(())
+    }
+}

@@ -1,0 +1,208 @@
+//! A shelf in memory.
+ghost use Rattle.std.specs.Prelude.{◌≡◌, ◌≤◌, ◌↔◌, [], Some, Ok, Err, IfOk, OnOk, OnErr, IsTrue, IsErrOf, Contains, vec_len};
+ghost use Rattle.std.specs.Option.{ForSome, option_map};
+ghost use Rattle.std.specs.FinMap as map;
+ghost use Rattle.shelf.specs.Names.{IsName};
+ghost use Rattle.shelf.specs.Causes.{ReadCause, WriteCause};
+ghost use Rattle.shelf.specs.Files.{file, IsRead, SameButAt};
+ghost use Rattle.shelf.specs.Tallies.{no_faults};
+
+use crate::fault::ShelfFault;
+use crate::tally::Tally;
+use crate::traits::Shelf;
+use duty_calendar::{List, Memory};
+use std::alloc::Global;
+use std::collections::BTreeMap;
+
+/// Files by name. The reads and writes whose numbers are in a list fail; they are counted
+/// together, from 1.
+#[derive(Drop)]
+pub struct MemoryShelf {
+    files: BTreeMap<String, Vec<u8>>,
+    tally: Tally,
+    failing: List<u64>,
+    calls: u64,
+}
+
+#[tactic(auto, using(crate::proofs::Stored::file_files_in, crate::proofs::Stored::files_in_insert))]
+impl MemoryShelf {
+    ghost use Rattle.shelf.specs.MemoryShelf.{files_of, tally_of, failing_of, calls_of, next_call};
+
+    /// No file is there, and nothing has gone wrong.
+    pub fn new(alloc: Global, failing: List<u64>) -> MemoryShelf
+        ensures files { files_of result ≡ map.empty }
+        ensures tally { tally_of result ≡ no_faults }
+        ensures failing { failing_of result ≡ failing }
+        ensures calls { calls_of result ≡ 0 }
+    {
+        MemoryShelf {
+            files: BTreeMap::new(alloc),
+            tally: Tally::new(),
+            failing,
+            calls: 0,
+        }
+    }
+
+    /// Gives a file these bytes, with no read and no write.
+    pub fn place(&mut self, alloc: Global, name: &str, bytes: &[u8]) -> Result<(), Memory>
+        requires name { IsName name.now }
+        ensures ok { OnOk result
+            (files_of self.new ≡ map.insert (files_of self.old) name.now bytes.now) }
+        ensures err { OnErr result (files_of self.new ≡ files_of self.old) }
+        ensures tally { tally_of self.new ≡ tally_of self.old }
+        ensures failing { failing_of self.new ≡ failing_of self.old }
+        ensures calls { calls_of self.new ≡ calls_of self.old }
+    {
+        let name = String::from_str(alloc, name)?;
+        self.files.insert(name, bytes.to_vec(alloc)?)?;
+        Ok(())
+    }
+
+    /// The bytes of a file, if it is there.
+    pub fn file(&self, name: &str) -> Option<&[u8]>
+        ensures found { option_map (λ bytes. bytes.now) result ≡ file (files_of self.now) name.now }
+    {
+        match self.files.get(name) {
+            Some(bytes) => Some(bytes.as_slice()),
+            None => None,
+        }
+    }
+
+    // Counts a call, and says whether it is one of those that fail.
+    fn fails_now(&mut self) -> bool
+        ensures fails { IsTrue result ↔ Contains (failing_of self.old) (next_call self.old) }
+        ensures counted { self.new ≡ record self.old { calls = next_call self.old } }
+    {
+        self.calls = self.calls.saturating_add(1);
+        self.failing.as_slice().contains(&self.calls)
+    }
+}
+
+#[tactic(auto, using(crate::proofs::Stored::file_files_in, crate::proofs::Others::same_but_at))]
+impl Shelf for MemoryShelf {
+    ghost use Rattle.shelf.specs.MemoryShelf.{files_of, tally_of, failing_of, calls_of, next_call};
+    ghost use Rattle.shelf.specs.declared.fault.ShelfFault.TheVariants.{ReadFailed, WriteFailed};
+
+    ghost holds = { λ s. Some (files_of s) };
+
+    ghost tally = { tally_of };
+
+    fn read(&mut self, alloc: Global, name: &str, limit: u64) -> Result<Vec<u8>, ShelfFault>
+        requires name { IsName name.now }
+        ensures cause { ReadCause name.now (tally_of self.old) (tally_of self.new) result }
+        ensures limit { IfOk result (λ bytes. vec_len bytes ≤ limit) }
+        ensures told { IsRead (files_of self.old) name.now limit result }
+        ensures kept { files_of self.new ≡ files_of self.old }
+
+        // A call fails where its number is in the list, so none does where the list is empty.
+        ensures fails { IsErrOf result ReadFailed
+            ↔ Contains (failing_of self.old) (next_call self.old) }
+        ensures calls { calls_of self.new ≡ next_call self.old }
+        ensures failing { failing_of self.new ≡ failing_of self.old }
+    {
+        if self.fails_now() {
+            self.tally.read_failed(name);
+            return Err(ShelfFault::ReadFailed);
+        }
+        match self.file(name) {
+            None => {
+                self.tally.missed(name);
+                Err(ShelfFault::Missing)
+            }
+            Some(bytes) if bytes.len() as u64 > limit => {
+                self.tally.found_long(name);
+                Err(ShelfFault::TooLong)
+            }
+            Some(bytes) => Ok(bytes.to_vec(alloc)?),
+        }
+    }
+
+    fn write(&mut self, alloc: Global, name: &str, bytes: &[u8]) -> Result<(), ShelfFault>
+        requires name { IsName name.now }
+        ensures cause { WriteCause name.now (tally_of self.old) (tally_of self.new) result }
+        ensures written { OnOk result
+            (files_of self.new ≡ map.insert (files_of self.old) name.now bytes.now) }
+        ensures others { SameButAt name.now (Some (files_of self.old)) (Some (files_of self.new)) }
+        ensures unwritten { OnErr result (files_of self.new ≡ files_of self.old) }
+
+        // A call fails where its number is in the list, so none does where the list is empty.
+        ensures fails { IsErrOf result WriteFailed
+            ↔ Contains (failing_of self.old) (next_call self.old) }
+        ensures calls { calls_of self.new ≡ next_call self.old }
+        ensures failing { failing_of self.new ≡ failing_of self.old }
+    {
+        if self.fails_now() {
+            self.tally.write_failed(name);
+            return Err(ShelfFault::WriteFailed);
+        }
+        Ok(self.place(alloc, name, bytes)?)
+    }
+}
+
+#[cfg(test)]
+mod tests {
+    use super::*;
+    use std::process::Abort;
+    use std::test::Fail;
+
+    // A file of ten bytes. The calls with these numbers fail.
+    fn shelf_of(rt: &impl Abort, alloc: Global, failing: &[u64]) -> Result<MemoryShelf, Fail> {
+        let mut numbers = List::new(alloc);
+        for number in failing {
+            assert!(rt; numbers.push(*number).is_ok());
+        }
+        let mut shelf = MemoryShelf::new(alloc, numbers);
+        shelf.place(alloc, "a", b"0123456789")?;
+        Ok(shelf)
+    }
+
+    fn read(alloc: Global, shelf: &mut MemoryShelf, limit: u64) -> Result<Vec<u8>, ShelfFault> {
+        shelf.read(alloc, "a", limit)
+    }
+
+    #[test]
+    fn reads_and_writes(rt: HostRuntime) -> Result<(), Fail> {
+        let alloc = rt.alloc();
+        let mut shelf = shelf_of(&rt, alloc, &[])?;
+        assert_eq!(rt;
+            read(alloc, &mut shelf, 10)?.as_slice(),
+            b"0123456789".as_slice()
+        );
+        assert_eq!(rt; read(alloc, &mut shelf, 9).err(), Some(ShelfFault::TooLong));
+        assert_eq!(rt; shelf.read(alloc, "b", 9).err(), Some(ShelfFault::Missing));
+        assert!(rt; shelf.file("b").is_none());
+        shelf.write(alloc, "b", b"1")?;
+        assert_eq!(rt; shelf.file("b"), Some(b"1".as_slice()));
+        let tally = &shelf.tally;
+        assert_eq!(rt;
+            (tally.faults, tally.fails, tally.misses, tally.longs),
+            (0, 0, 1, 1)
+        );
+        assert_eq!(rt; tally.last.as_slice(), b"b".as_slice());
+        Ok(())
+    }
+
+    #[test]
+    fn the_third_call_fails(rt: HostRuntime) -> Result<(), Fail> {
+        let alloc = rt.alloc();
+        let mut shelf = shelf_of(&rt, alloc, &[3, 4])?;
+        shelf.write(alloc, "b", b"1")?;
+        read(alloc, &mut shelf, 10)?;
+        assert_eq!(rt;
+            read(alloc, &mut shelf, 10).err(),
+            Some(ShelfFault::ReadFailed)
+        );
+        assert_eq!(rt;
+            shelf.write(alloc, "b", b"2").err(),
+            Some(ShelfFault::WriteFailed)
+        );
+        shelf.write(alloc, "b", b"3")?;
+        let tally = &shelf.tally;
+        assert_eq!(rt;
+            (tally.faults, tally.fails, tally.misses, tally.longs),
+            (1, 1, 0, 0)
+        );
+        assert_eq!(rt; tally.last.as_slice(), b"b".as_slice());
+        Ok(())
+    }
+}
