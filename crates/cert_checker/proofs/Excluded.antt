@@ -1,5 +1,5 @@
 -- No item is accepted at a node where it has a fault.
-use Rattle.std.proofs.Common.{◌≡◌, ℕ, ◌<◌, ◌≤◌, ◌⊎◌, inl, inr, true, false, List, refl, sym, ◌∙◌, arith}
+use Rattle.std.proofs.Common.{ℕ, inl, inr, List, sym, ◌∙◌, arith}
 use Rattle.std.proofs.lemmas.Bool.{false≢true}
 use Rattle.roster_model.specs.declared.problem.Problem.{Problem}
 use Rattle.roster_model.specs.declared.goal.Goal.{Goal}

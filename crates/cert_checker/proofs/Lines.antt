@@ -1,5 +1,5 @@
 -- The line that a node decides.
-use Rattle.std.proofs.Common.{◌≡◌, ℕ, zero, suc, ◌+◌, ◌<◌, ◌≤◌, Bool, true, false, cond, List, [], ◌∷◌, ◌++◌, get_or, length, refl, sym, ap, ◌∙◌, arith, inl, inr, zero-add}
+use Rattle.std.proofs.Common.{◌≡◌, ℕ, zero, suc, ◌+◌, ◌<◌, ◌≤◌, Bool, true, false, List, [], ◌∷◌, ◌++◌, length, refl, ap, ◌∙◌, arith, inl, inr, zero-add}
 use Rattle.std.specs.Prelude.{All, filter}
 use Rattle.std.specs.List.{range_with_len}
 use Rattle.std.proofs.lemmas.Bool.{le-leb, and_from, cases_Bool}
@@ -8,7 +8,7 @@ use Rattle.std.proofs.lemmas.List.{append-nil}
 use Rattle.duty_calendar.proofs.Counting.{range-append}
 use Rattle.roster_model.specs.declared.problem.Problem.{Problem}
 use Rattle.roster_model.specs.declared.node.Decision.{Decision}
-use Rattle.roster_model.specs.Ascending.{ascends_from, is_ascending}
+use Rattle.roster_model.specs.Ascending.{ascends_from}
 use Rattle.roster_model.specs.Closing.{decided_line}
 use Rattle.roster_model.specs.Decided.{is_decided_as}
 

@@ -1,7 +1,6 @@
 -- The first test of an award that fails.
 use Rattle.std.specs.Prelude.{◌≡◌, ◌≢◌, ℕ, ◌<◌, List, [], length, slice_get, Some}
 use Rattle.roster_model.specs.declared.problem.Problem.{Problem}
-use Rattle.roster_model.specs.declared.goal.Goal.{Goal}
 use Rattle.roster_model.specs.declared.proof.Item.{Item}
 use Rattle.roster_model.specs.Rosters.{IsComplete, scores_of}
 use Rattle.roster_model.specs.Closing.{Closes}

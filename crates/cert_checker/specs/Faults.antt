@@ -1,5 +1,5 @@
 -- What is wrong with an item at a node. Each fault says that the tests before it are passed.
-use Rattle.std.specs.Prelude.{◌≡◌, ℕ, ◌<◌, ◌≤◌, ◌⊎◌, true, false, List, Option, length, slice_get}
+use Rattle.std.specs.Prelude.{◌≡◌, ℕ, ◌<◌, ◌≤◌, ◌⊎◌, true, false, List, length, slice_get}
 use Rattle.std.specs.Option.{ForSome}
 use Rattle.roster_model.specs.declared.problem.Problem.{Problem}
 use Rattle.roster_model.specs.declared.goal.Goal.{Goal}

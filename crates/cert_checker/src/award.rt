@@ -1,5 +1,5 @@
 //! The judge of an award.
-ghost use Rattle.std.specs.Prelude.{◌≡◌, ◌+◌, ◌^◌, ◌<◌, ◌≤◌, [], ℕ, List as Sequence, length, All, OnOk, IfOk, IfErr};
+ghost use Rattle.std.specs.Prelude.{◌≡◌, ◌+◌, ◌^◌, ◌<◌, [], List as Sequence, length, All, OnOk, IfErr};
 ghost use Rattle.roster_model.specs.declared.goal.Goal.{Goal as Aim};
 ghost use Rattle.roster_model.specs.declared.node.Decision.{Decision};
 ghost use Rattle.roster_model.specs.declared.proof.Item.{Item as Step};

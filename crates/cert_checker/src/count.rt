@@ -2,7 +2,6 @@
 ghost use Rattle.std.specs.Prelude.{◌≡◌, true, false, not, OnOk, IfErr};
 ghost use Rattle.roster_model.specs.Decided.{is_decided_as};
 ghost use Rattle.roster_model.specs.Closing.{decided_crew, possible_crew, IsMiscrewed};
-ghost use Rattle.roster_model.specs.Rosters.{need_of};
 ghost use Rattle.cert_checker.specs.Faults.{CountFails};
 
 use crate::refusal::ItemFault;
@@ -12,9 +11,7 @@ use roster_model::{Decision, Node, Problem};
 fn has(decisions: &[Decision], member: u32, pairing: u32, flies: bool) -> bool
     ensures { result ≡ is_decided_as decisions.now member pairing flies }
 {
-    decisions
-        .iter()
-        .any(|d| d.member == member && d.pairing == pairing && d.flies == flies)
+    decisions.iter().any(|d| d.member == member && d.pairing == pairing && d.flies == flies)
 }
 
 /// Whether the node has the decision that the member flies the pairing, or that the member does not.
@@ -61,7 +58,9 @@ pub(crate) fn count(problem: &Problem, node: &Node, pairing: u32) -> Result<(), 
     match problem.base.pairings.as_slice().get(pairing as usize) {
         None => Err(ItemFault::Index),
         Some(wanted) => {
-            if wanted.need < decided_crew(problem, node, pairing) || possible_crew(problem, node, pairing) < wanted.need {
+            if wanted.need < decided_crew(problem, node, pairing)
+                || possible_crew(problem, node, pairing) < wanted.need
+            {
                 Ok(())
             } else {
                 Err(ItemFault::Covered)

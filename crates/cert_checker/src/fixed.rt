@@ -1,8 +1,7 @@
 //! Items on a member whose line is decided and does not serve.
-ghost use Rattle.std.specs.Prelude.{◌≡◌, ◌<◌, ◌↔◌, length, All, IsTrue, OnOk, IfOk, IfErr, MatchOption, slice_get};
+ghost use Rattle.std.specs.Prelude.{◌≡◌, ◌<◌, ◌↔◌, length, All, IsTrue, OnOk, IfOk, IfErr, MatchOption};
 ghost use Rattle.roster_model.specs.Closing.{decided_line, IsDecidedLine, IsMisfit};
-ghost use Rattle.roster_model.specs.Goals.{IsGoal, MeetsGoal};
-ghost use Rattle.roster_model.specs.Legality.{IsLegal};
+ghost use Rattle.roster_model.specs.Goals.{IsGoal};
 ghost use Rattle.cert_checker.specs.Faults.{FixedFails, IsBidMet, IsFirstUndecided, IsFloorMet, IsStepFault, Serves};
 
 use crate::count::is_decided_as;

@@ -1,5 +1,5 @@
 //! The scores of a roster, and the goals of its places.
-ghost use Rattle.std.specs.Prelude.{◌≡◌, ◌+◌, ◌^◌, ◌<◌, ◌≤◌, length, All, IfOk};
+ghost use Rattle.std.specs.Prelude.{◌≡◌, ◌+◌, ◌^◌, ◌<◌, length, All, IfOk};
 ghost use Rattle.roster_model.specs.Rosters.{scores_of};
 ghost use Rattle.roster_model.specs.Awards.{above_at};
 ghost use Rattle.cert_checker.specs.Given.{AreInRange};
@@ -10,7 +10,11 @@ use roster_model::{Goal, Problem, Roster};
 use std::alloc::Global;
 
 /// The score of each line.
-pub(crate) fn scores_of(alloc: Global, problem: &Problem, roster: &Roster) -> Result<List<u32>, Memory>
+pub(crate) fn scores_of(
+    alloc: Global,
+    problem: &Problem,
+    roster: &Roster,
+) -> Result<List<u32>, Memory>
     requires lines { length roster.now ≡ length problem.now.base.members }
     requires pairings { AreInRange problem.now roster.now }
     ensures value { IfOk result (λ scores. scores ≡ scores_of problem.now roster.now) }
@@ -39,5 +43,8 @@ pub(crate) fn goal_above(alloc: Global, scores: &[u32], place: usize) -> Result<
     if floors.push(scores[place] + 1).is_err() {
         return Err(Memory::NoMemory);
     }
-    Ok(Goal { floors, grant: None })
+    Ok(Goal {
+        floors,
+        grant: None,
+    })
 }

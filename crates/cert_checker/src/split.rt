@@ -8,12 +8,19 @@ use crate::refusal::{ItemFault, StepFault};
 use roster_model::{Decision, Node, NodeFault, Problem};
 
 /// Goes on to the part in which the member flies the pairing, where the pair is not decided.
-pub(crate) fn split(problem: &Problem, node: &mut Node, member: u32, pairing: u32) -> Result<(), StepFault>
+pub(crate) fn split(
+    problem: &Problem,
+    node: &mut Node,
+    member: u32,
+    pairing: u32,
+) -> Result<(), StepFault>
     ensures is_open { OnOk result (IsOpenPair problem.now node.old member pairing) }
     ensures flown { OnOk result (node.new ≡ decided node.old member pairing true) }
     ensures fault { IfErr result (IsStepFault (SplitFails problem.now node.old member pairing)) }
 {
-    if member as usize >= problem.base.members.len() || pairing as usize >= problem.base.pairings.len() {
+    if member as usize >= problem.base.members.len()
+        || pairing as usize >= problem.base.pairings.len()
+    {
         return Err(StepFault::Of(ItemFault::Index));
     }
     match node.decide(Decision {

@@ -1,5 +1,5 @@
 //! The walk over the items of a closing proof.
-ghost use Rattle.std.specs.Prelude.{◌≡◌, ◌^◌, ◌<◌, [], ◌∷◌, length, All, OnOk, IfOk, IfErr};
+ghost use Rattle.std.specs.Prelude.{◌^◌, ◌<◌, [], ◌∷◌, length, All, OnOk, IfOk, IfErr};
 ghost use Rattle.roster_model.specs.Decided.{nodes_behind, open_nodes};
 ghost use Rattle.roster_model.specs.Closing.{Closes};
 ghost use Rattle.roster_model.specs.Goals.{IsGoal};
