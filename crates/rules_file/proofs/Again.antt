@@ -24,7 +24,8 @@ use Rattle.toml.specs.Text.{IsLinesText}
 use Rattle.toml.proofs.Turns.{document_some}
 use Rattle.toml.proofs.ReadLines.{run, AllPrinted, read_lines}
 use Rattle.rules_file.specs.Keys.{missing, unknown}
-use Rattle.rules_file.specs.Rules.{Values, rules_file, rules_in, base_in, seat_in, year_in, month_in, offset_in, days_off_in, is_station, is_seat, is_seat_byte, between, sized, passed}
+use Rattle.rules_file.specs.Rules.{Values, rules_file, rules_in, base_in, seat_in, year_in, month_in, offset_in, days_off_in, is_station, between, sized, passed}
+use Rattle.duty_calendar.specs.Forms.{is_seat, is_seat_byte}
 use Rattle.rules_file.specs.Spelling.{text_line, number_line, rules_text}
 use Rattle.rules_file.proofs.Tables.{table_of-some}
 use Rattle.rules_file.proofs.Texts.{text_line-is, number_line-is}

@@ -12,7 +12,7 @@ use Rattle.toml_writer.specs.Text.{string_text, encoding_of, escaped, needs_esca
 use Rattle.toml.specs.Data.{string, integer}
 use Rattle.toml.specs.Tables.{key_value}
 use Rattle.toml.specs.Text.{IsLineText}
-use Rattle.rules_file.specs.Rules.{is_seat_byte}
+use Rattle.duty_calendar.specs.Forms.{is_seat_byte}
 use Rattle.rules_file.specs.Spelling.{text_line, number_line}
 
 -- a byte that needs no escape

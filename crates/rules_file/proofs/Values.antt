@@ -8,7 +8,8 @@ use Rattle.duty_calendar.specs.Forms.{is_name, is_name_byte}
 use Rattle.toml.specs.Data.{Members}
 use Rattle.rules_file.specs.declared.fault.RuleFault.TheVariants as fault
 use Rattle.rules_file.specs.Keys.{missing, unknown}
-use Rattle.rules_file.specs.Rules.{values_in, rules_in, base_in, seat_in, year_in, month_in, offset_in, days_off_in, is_seat, is_seat_byte}
+use Rattle.rules_file.specs.Rules.{values_in, rules_in, base_in, seat_in, year_in, month_in, offset_in, days_off_in}
+use Rattle.duty_calendar.specs.Forms.{is_seat, is_seat_byte}
 
 pub no_base : (t : Members) → base_in t ≡ None → values_in t ≡ Err (fault.Range (codes "base"))
 unfolding values_in

@@ -2,7 +2,7 @@
 use Rattle.std.specs.Prelude.{◌≡◌, ℕ, ◌≤◌, List, length, Bool, codes, nat_le, nat_lt, ℤ, pos, negsuc, ◌&&◌, ◌||◌, ◌==◌, Option, Some, None, option_and_then, Result, Ok, Err, if◌then◌else◌, IsTrue}
 use Rattle.std.specs.List.{list_all}
 use Rattle.std.specs.Str.{is_utf8}
-use Rattle.duty_calendar.specs.Forms.{is_capital, is_digit, are_capitals}
+use Rattle.duty_calendar.specs.Forms.{are_capitals, is_seat}
 use Rattle.duty_calendar.specs.declared.member.Rules.{Rules}
 use Rattle.field_text.specs.Steps.{◌>>=◌, or_fault}
 use Rattle.toml.specs.Data.{Members, get_member, as_integer, as_str}
@@ -34,15 +34,9 @@ whole_at key table = option_and_then as_integer (get_member key table)
 abbrev pub passed : (List ℕ → Bool) → List ℕ → Option (List ℕ)
 passed test text = if test text then Some text else None
 
--- a station has three capital letters, a seat 1 to 8 capital letters or digits
+-- a station has three capital letters
 abbrev pub is_station : List ℕ → Bool
 is_station text = (length text == 3) && are_capitals text
-
-abbrev pub is_seat_byte : ℕ → Bool
-is_seat_byte b = is_capital b || is_digit b
-
-abbrev pub is_seat : List ℕ → Bool
-is_seat text = nat_le 1 (length text) && nat_le (length text) 8 && list_all is_seat_byte text
 
 -- a whole number from one to another, and one of at most a size
 abbrev pub between : ℕ → ℕ → ℤ → Option ℕ
@@ -111,8 +105,3 @@ Fails (fault.Range key) read = read ≡ Err (fault.Range key)
 abbrev pub Gives : Result Rules RuleFault → Result Values RuleFault → Type 0
 Gives (Ok rules) read = read ≡ Ok (values rules)
 Gives (Err e) read = Fails e read
-
--- rules that a text can give
-pub record IsRules (r : Rules) : Type 0 where
-  pub seat : IsTrue (is_seat r.seat)
-  pub days_off : r.days_off ≤ 31

@@ -6,7 +6,9 @@ ghost use Rattle.jiff.specs.Words.{IsBetween};
 ghost use Rattle.duty_calendar.specs.Calendar.{IsOffset};
 ghost use Rattle.toml.specs.View.{table_view};
 ghost use Rattle.rules_file.specs.declared.fault.RuleFault.TheVariants.{Range};
-ghost use Rattle.rules_file.specs.Rules.{IsRules, values, values_in, text_at, whole_at, between, sized, is_seat, is_seat_byte, base_in, seat_in, year_in, month_in, offset_in, days_off_in};
+ghost use Rattle.rules_file.specs.Rules.{values, values_in, text_at, whole_at, between, sized, base_in, seat_in, year_in, month_in, offset_in, days_off_in};
+ghost use Rattle.duty_calendar.specs.Checks.{IsRules};
+ghost use Rattle.duty_calendar.specs.Forms.{is_seat, is_seat_byte};
 
 use crate::keys::value_at;
 use duty_calendar::{Horizon, Name, Rules, Station};

@@ -1,7 +1,8 @@
 //! Reading rules.
 ghost use Rattle.std.specs.Prelude.{IfOk};
 ghost use Rattle.toml.specs.View.{table_view};
-ghost use Rattle.rules_file.specs.Rules.{Gives, IsRules, rules_file, rules_in};
+ghost use Rattle.rules_file.specs.Rules.{Gives, rules_file, rules_in};
+ghost use Rattle.duty_calendar.specs.Checks.{IsRules};
 
 use crate::fault::{Key, RuleFault};
 use crate::fields::rules_of;

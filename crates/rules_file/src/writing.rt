@@ -2,7 +2,8 @@
 ghost use Rattle.std.specs.Prelude.{◌≡◌, ◌++◌, OnOk, OnErr, Ok};
 ghost use Rattle.std.specs.List.{flat_map};
 ghost use Rattle.field_text.specs.Spelling.{HasPartly};
-ghost use Rattle.rules_file.specs.Rules.{IsRules, values, rules_file};
+ghost use Rattle.rules_file.specs.Rules.{values, rules_file};
+ghost use Rattle.duty_calendar.specs.Checks.{IsRules};
 ghost use Rattle.rules_file.specs.Spelling.{rules_text};
 
 use duty_calendar::{List, Memory, Rules};
