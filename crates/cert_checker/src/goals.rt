@@ -9,12 +9,8 @@ use duty_calendar::{List, Memory};
 use roster_model::{Goal, Problem, Roster};
 use std::alloc::Global;
 
-/// The score of each line.
-pub(crate) fn scores_of(
-    alloc: Global,
-    problem: &Problem,
-    roster: &Roster,
-) -> Result<List<u32>, Memory>
+/// The score of each line, in the order of the members.
+pub fn scores_of(alloc: Global, problem: &Problem, roster: &Roster) -> Result<List<u32>, Memory>
     requires lines { length roster.now ≡ length problem.now.base.members }
     requires pairings { AreInRange problem.now roster.now }
     ensures value { IfOk result (λ scores. scores ≡ scores_of problem.now roster.now) }

@@ -11,4 +11,5 @@ mod split;
 mod walk;
 
 pub use award::judge;
+pub use goals::scores_of;
 pub use refusal::{ItemFault, No};
