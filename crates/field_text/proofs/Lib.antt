@@ -1,0 +1,16 @@
+pub mod RowForms
+pub mod Numbers
+pub mod RecordsLeft
+pub mod TextRows
+pub mod TokenSteps
+pub mod TokenLaws
+pub mod Spelled
+pub mod Prefixes
+pub mod Again
+pub mod Hours
+pub mod Names
+pub mod Days
+pub mod Moments
+pub mod Walk
+pub mod Utc
+pub mod ColumnLaws

@@ -1,0 +1,11 @@
+pub mod Sizes
+pub mod Steps
+pub mod Form
+pub mod Columns
+pub mod Fields
+pub mod Dates
+pub mod Spelling
+pub mod Tokens
+pub mod Records
+pub mod Rows
+pub mod Codes

@@ -1,0 +1,25 @@
+//! Laws of the forms of fields and of the tokens of a line.
+ghost use Rattle.std.specs.Prelude.{◌≡◌, ◌↔◌, ℕ, ◌+◌, ◌∷◌, [], ◌++◌, List as Sequence, length, Some, None, Ok, IsTrue};
+ghost use Rattle.std.specs.List.{list_all};
+ghost use Rattle.field_text.specs.Form.{Form, fault_from, is_of};
+ghost use Rattle.field_text.specs.Columns.{StopsAt, is_live};
+ghost use Rattle.field_text.specs.Fields.{forms};
+ghost use Rattle.field_text.specs.Tokens.{is_graphic, tokens_from, ◌andthen◌};
+
+/// What the column of a fault of shape says of the texts of a form. Each part of the fields' forms can be gone on to
+/// its end, so this holds of each of them.
+pub fn column_laws()
+    ensures live { IsTrue (list_all is_live forms) }
+    // There is no column where the text is of the form.
+    ensures fits { (f : Form) (text : Sequence ℕ) → IsTrue (is_live f) → (fault_from 1 f text ≡ None) ↔ IsTrue (is_of f text) }
+    // A column is that of the first byte at which no text of the form goes on.
+    ensures stops { (f : Form) (text : Sequence ℕ) (column : ℕ) → IsTrue (is_live f) → fault_from 1 f text ≡ Some column → StopsAt f text column }
+{}
+
+/// A word and a space in front of other words give the word's token in front of theirs, and a last word its own alone.
+pub fn word_laws()
+    ensures more { (n b : ℕ) (bs rest : Sequence ℕ) → IsTrue (list_all is_graphic (b ∷ bs))
+        → tokens_from None n ((b ∷ bs) ++ (32 ∷ rest)) ≡ (record { start = n; end = n + length (b ∷ bs) } ∷ []) andthen tokens_from None (n + length (b ∷ bs) + 1) rest }
+    ensures last { (n b : ℕ) (bs : Sequence ℕ) → IsTrue (list_all is_graphic (b ∷ bs))
+        → tokens_from None n (b ∷ bs) ≡ Ok (record { start = n; end = n + length (b ∷ bs) } ∷ []) }
+{}
