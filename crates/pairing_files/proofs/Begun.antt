@@ -1,11 +1,10 @@
 -- Pairings whose duties and legs are still being read: what they keep.
-use Rattle.std.proofs.Common.{◌≡◌, ◌≢◌, ◌⊎◌, ℕ, zero, suc, ◌+◌, ◌-◌, ◌<◌, ◌≤◌, List, [], ◌∷◌, ◌++◌, length, get_or, set, map, Bool, true, false, not, ◌&&◌, ◌||◌, ◌==◌, nat_lt, nat_le, nat_eq, if◌then◌else◌, Option, Some, None, slice_get, slice_set, All, AllPairs, refl, arith, sym, ap, subst, ◌∙◌, inl, inr, length-append}
+use Rattle.std.proofs.Common.{◌≡◌, ◌≢◌, ℕ, ◌+◌, ◌-◌, ◌<◌, ◌≤◌, List, [], ◌∷◌, ◌++◌, length, map, Bool, true, false, not, ◌&&◌, ◌||◌, ◌==◌, nat_lt, nat_le, nat_eq, if◌then◌else◌, Option, Some, None, slice_get, slice_set, All, AllPairs, refl, arith, sym, ap, subst, ◌∙◌, inl, inr, length-append}
 use Rattle.std.specs.Cmp.Lexicographic.{pointwise}
 use Rattle.std.specs.List.{list_any}
 use Rattle.std.specs.Option.{ForSome, option_map_or}
 use Rattle.std.proofs.Math.ListN.{length-set}
 use Rattle.std.proofs.Math.Seq.{map-set_same}
-use Rattle.std.proofs.lemmas.Bool.{cases_lt}
 use Rattle.std.proofs.lemmas.Bool.Decides.{nat_tests}
 use Rattle.std.proofs.lemmas.List.Elements.{All-nil, All-push, All-set, All-map, All-weaker}
 use Rattle.std.proofs.lemmas.Option.{get_or_from_slice_get, slice_get_within}
@@ -14,13 +13,12 @@ use Rattle.duty_calendar.specs.declared.horizon.Horizon.{Horizon}
 use Rattle.duty_calendar.specs.declared.pairing.Duty.{Duty}
 use Rattle.duty_calendar.specs.declared.pairing.Leg.{Leg}
 use Rattle.duty_calendar.specs.declared.pairing.Pairing.{Pairing}
-use Rattle.field_text.specs.declared.file_fault.FileCode.{FileCode}
 use Rattle.field_text.specs.declared.file_fault.FileCode.TheVariants.{Duplicate, Order, OutsideMonth, InnerRest, Limit}
 use Rattle.pairing_files.specs.declared.tables.Place.{Place}
 use Rattle.pairing_files.specs.Drafts.{Draft, is_called, adding_duty, adding_leg, with_pairing, with_duty, with_leg}
-use Rattle.pairing_files.specs.Faults.{last_of, pairing_fault, is_duty_in_order, is_in_month, month_fault, rest_fault, report_fault, too_many, first_fault, duty_fault, is_leg_within, is_before_last, leg_fault, numbered}
+use Rattle.pairing_files.specs.Faults.{last_of, pairing_fault, is_duty_in_order, is_in_month, month_fault, rest_fault, report_fault, too_many, first_fault, duty_fault, is_leg_within, is_before_last, leg_fault}
 use Rattle.pairing_files.proofs.Inverse.{four-pass, two-pass, both-none, or-false, and-true, lt-false, lt-true, le-false, le-true}
-use Rattle.pairing_files.proofs.ListFacts.{all-get, get-left, get-end, get-pushed, get-set, pairs-get, pairs-weaker, pairs-push, pairs-set, order-push, last-none, list_any-false}
+use Rattle.pairing_files.proofs.ListFacts.{all-get, get-left, get-end, get-pushed, get-set, pairs-weaker, pairs-push, pairs-set, order-push, list_any-false}
 use Rattle.pairing_files.proofs.NameFacts.{map-append_of}
 
 pub record IsBegunDuty (d : Duty) : Type 0 where
@@ -69,9 +67,9 @@ same-self (x ∷ xs) = let e : nat_eq x x ≡ true = grind (arith, nat_tests) in
 pub other-names : (list : List Pairing) (name : List ℕ) → list_any (is_called name) list ≡ false → All (λ a. a ≢ name) (names_of list)
 other-names list name none =
     All-map (λ (a : List ℕ). a ≢ name) (λ (p : Pairing). p.name) list
-      (All-weaker (λ (p : Pairing). is_called name p ≡ false) (λ (p : Pairing). p.name ≢ name)
-        (λ (p : Pairing). λ miss. λ same. let hit : pointwise nat_eq name p.name ≡ true = ap (λ (n : List ℕ). pointwise nat_eq name n) same ∙ same-self name in cc (sym hit ∙ miss))
-        list (list_any-false (is_called name) list none))
+    (All-weaker (λ (p : Pairing). is_called name p ≡ false) (λ (p : Pairing). p.name ≢ name)
+    (λ (p : Pairing). λ miss. λ same. let hit : pointwise nat_eq name p.name ≡ true = ap (λ (n : List ℕ). pointwise nat_eq name n) same ∙ same-self name in cc (sym hit ∙ miss))
+    list (list_any-false (is_called name) list none))
 
 pub begun-pairing : (h : Horizon) (p : Pairing) → p.duties ≡ [] → 1 ≤ p.need → p.need ≤ 9 → p.credit ≤ 12000 → IsBegun h p
 begun-pairing h p none some few credit = record {
@@ -91,9 +89,9 @@ no-duty p k e none at = let f : slice_get [] k ≡ Some e = ap (λ (ds : List Du
 
 covers-pairing : (places : List Place) (list : List Pairing) (p : Pairing) → p.duties ≡ [] → Covers places list → Covers places (list ++ p ∷ [])
 covers-pairing places list p none covers i k q e at there = elim (get-pushed list p i q at) [
-    | inl old ↦ covers i k q e old there
-    | inr new ↦ absurd (no-duty p k e none (ap (λ (x : Pairing). slice_get x.duties k) (sym new.1) ∙ there))
-  ]
+  | inl old ↦ covers i k q e old there
+  | inr new ↦ absurd (no-duty p k e none (ap (λ (x : Pairing). slice_get x.duties k) (sym new.1) ∙ there))
+]
 
 pub keeps-pairing : (h : Horizon) (before : Draft) (p : Pairing) → IsBegunDraft h before → p.duties ≡ [] → pairing_fault before.list p ≡ None → IsBegunDraft h (with_pairing before p)
 keeps-pairing h before p good none fits =
@@ -107,7 +105,7 @@ keeps-pairing h before p good none fits =
       few = omega (arith, length-append before.list (p ∷ []));
       each = All-push (IsBegun h) before.list p good.each (begun-pairing h p none some few credit);
       names = subst (λ (ns : List (List ℕ)). AllPairs (λ (a b : List ℕ). a ≢ b) ns) (sym (map-append_of (λ (x : Pairing). x.name) before.list (p ∷ [])))
-        (pairs-push (λ (a b : List ℕ). a ≢ b) (names_of before.list) p.name good.names (other-names before.list p.name pass.0));
+          (pairs-push (λ (a b : List ℕ). a ≢ b) (names_of before.list) p.name good.names (other-names before.list p.name pass.0));
       covered = covers-pairing before.places before.list p none good.covered;
     }
 
@@ -174,9 +172,9 @@ later h p d good fits = go (last_of p.duties) refl fits
 -- the first duty of a pairing that got one more
 still-begins : (h : Horizon) (p : Pairing) (d : Duty) → IsBegun h p → report_fault h (last_of p.duties) d.report ≡ None → ForSome (slice_get (p.duties ++ d ∷ []) 0) (λ x. x.report < month_end h)
 still-begins h p d good fits x at = elim (get-pushed p.duties d 0 x at) [
-    | inl old ↦ good.begins x old
-    | inr new ↦ subst (λ (y : Duty). y.report < month_end h) (sym new.1) (go (last_of p.duties) refl fits new.0)
-  ]
+  | inl old ↦ good.begins x old
+  | inr new ↦ subst (λ (y : Duty). y.report < month_end h) (sym new.1) (go (last_of p.duties) refl fits new.0)
+]
   where
     go : (o : Option Duty) → last_of p.duties ≡ o → report_fault h o d.report ≡ None → 0 ≡ length p.duties → d.report < month_end h
     go None e f zero_many = (first-in-month h None d.report refl f).1
@@ -194,7 +192,7 @@ begun-more h p number d good none within fits =
       few_duties = omega (arith, length-append p.duties (d ∷ []));
       each_duty = All-push IsBegunDuty p.duties d good.each_duty (begun-duty d none pass.1);
       in_order = order-push (λ (x : Duty). x.report) (λ (x : Duty). x.release) 600 p.duties d (lasting p.duties good.each_duty) good.in_order
-        (λ (l : Duty). λ e. after-last h (last_of p.duties) l d.report e both.0);
+          (λ (l : Duty). λ e. after-last h (last_of p.duties) l d.report e both.0);
       coming = All-push (λ (x : Duty). 525600 ≤ x.report) p.duties d good.coming (later h p d good both.0);
       begins = still-begins h p d good both.0;
       ends = All-push (λ (x : Duty). x.release ≤ horizon_end h) p.duties d good.ends within;
@@ -214,9 +212,9 @@ covers-duty places list n p d at covers i k q e here there =
       | inl new ↦ elim (get-pushed p.duties d k e (ap (λ (x : Pairing). slice_get x.duties k) (sym new.1) ∙ there)) [
         | inl old ↦ let c = covers i k p e (ap (slice_get list) new.0 ∙ at) old in (c.0, get-left places (z ∷ []) c.0 (place_at i k) c.1)
         | inr last ↦
-          let one : place_at n (length p.duties) ≡ place_at i (length p.duties) = ap (λ (m : ℕ). place_at m (length p.duties)) (sym new.0) in
-          let two : place_at i (length p.duties) ≡ place_at i k = ap (λ (m : ℕ). place_at i m) (sym last.0) in
-          (length places, get-end places z ∙ ap (λ (x : Place). Some x) (one ∙ two))
+            let one : place_at n (length p.duties) ≡ place_at i (length p.duties) = ap (λ (m : ℕ). place_at m (length p.duties)) (sym new.0) in
+            let two : place_at i (length p.duties) ≡ place_at i k = ap (λ (m : ℕ). place_at i m) (sym last.0) in
+            (length places, get-end places z ∙ ap (λ (x : Place). Some x) (one ∙ two))
       ]
       | inr old ↦ let c = covers i k q e old there in (c.0, get-left places (z ∷ []) c.0 (place_at i k) c.1)
     ]
@@ -236,7 +234,7 @@ leg-passes : (d : Duty) (l : Leg) → leg_fault d l ≡ None → (is_leg_within 
 leg-passes d l fits = go (is_leg_within d l) (is_before_last d.legs l) refl refl fits
   where
     go : (a b : Bool) → is_leg_within d l ≡ a → is_before_last d.legs l ≡ b → (if not a then Some Order else (if b then Some Order else too_many 8 4 d.legs)) ≡ None
-      → (is_leg_within d l ≡ true) × (is_before_last d.legs l ≡ false) × (length d.legs < 8)
+        → (is_leg_within d l ≡ true) × (is_before_last d.legs l ≡ false) × (length d.legs < 8)
     go true false e f g = (e, f, some-fits 8 4 d.legs g)
     go true true e f g = absurd (cc g)
     go false b e f g = absurd (cc g)
@@ -261,9 +259,9 @@ begun-leg d l good fits =
       lasts = good.lasts;
       few_legs = omega (arith, length-append d.legs (l ∷ []));
       legs = All-push (λ (m : Leg). (d.report ≤ m.flown.out_at) × (m.flown.out_at < m.flown.in_at) × (m.flown.in_at ≤ d.parked)) d.legs l good.legs
-        (le-true d.report l.flown.out_at inner.0, lt-true l.flown.out_at l.flown.in_at inner.1, le-true l.flown.in_at d.parked outer.1);
+          (le-true d.report l.flown.out_at inner.0, lt-true l.flown.out_at l.flown.in_at inner.1, le-true l.flown.in_at d.parked outer.1);
       in_order = pairs-weaker (λ (k m : Leg). k.flown.in_at + 0 ≤ m.flown.out_at) (λ (k m : Leg). k.flown.in_at ≤ m.flown.out_at) (d.legs ++ l ∷ []) (λ (a b : Leg). λ e. omega arith)
-        (order-push (λ (m : Leg). m.flown.out_at) (λ (m : Leg). m.flown.in_at) 0 d.legs l (flying d good)
+          (order-push (λ (m : Leg). m.flown.out_at) (λ (m : Leg). m.flown.in_at) 0 d.legs l (flying d good)
           (pairs-weaker (λ (k m : Leg). k.flown.in_at ≤ m.flown.out_at) (λ (k m : Leg). k.flown.in_at + 0 ≤ m.flown.out_at) d.legs (λ (a b : Leg). λ e. omega arith) good.in_order)
           (λ (k : Leg). λ e. let f : k.flown.in_at ≤ l.flown.out_at = not-before (last_of d.legs) k l e pass.1 in omega arith));
     }
@@ -286,8 +284,8 @@ begun-changed h p k d e good at begun report release =
       coming = All-set (λ (x : Duty). 525600 ≤ x.report) p.duties k e (omega arith) good.coming;
       begins = λ (x : Duty). λ there. elim (get-set p.duties k 0 e x there) [
         | inl new ↦
-          let first : d.report < month_end h = good.begins d (ap (slice_get p.duties) new.0 ∙ at) in
-          subst (λ (y : Duty). y.report < month_end h) (sym new.1) (subst (λ (n : ℕ). n < month_end h) (sym report) first)
+            let first : d.report < month_end h = good.begins d (ap (slice_get p.duties) new.0 ∙ at) in
+            subst (λ (y : Duty). y.report < month_end h) (sym new.1) (subst (λ (n : ℕ). n < month_end h) (sym report) first)
         | inr old ↦ good.begins x old
       ];
       ends = All-set (λ (x : Duty). x.release ≤ horizon_end h) p.duties k e (subst (λ (n : ℕ). n ≤ horizon_end h) (sym release) ended) good.ends;
@@ -295,12 +293,12 @@ begun-changed h p k d e good at begun report release =
 
 covers-changed : (places : List Place) (list : List Pairing) (n : ℕ) (p : Pairing) (m : ℕ) (d f : Duty) → slice_get list n ≡ Some p → slice_get p.duties m ≡ Some d → Covers places list → Covers places (slice_set list n (changed p m f))
 covers-changed places list n p m d f at held covers i k q e here there = elim (get-set list n i (changed p m f) q here) [
-    | inl new ↦ elim (get-set p.duties m k f e (ap (λ (x : Pairing). slice_get x.duties k) (sym new.1) ∙ there)) [
-      | inl both ↦ covers i k p d (ap (slice_get list) new.0 ∙ at) (ap (slice_get p.duties) both.0 ∙ held)
-      | inr old ↦ covers i k p e (ap (slice_get list) new.0 ∙ at) old
-    ]
-    | inr old ↦ covers i k q e old there
+  | inl new ↦ elim (get-set p.duties m k f e (ap (λ (x : Pairing). slice_get x.duties k) (sym new.1) ∙ there)) [
+    | inl both ↦ covers i k p d (ap (slice_get list) new.0 ∙ at) (ap (slice_get p.duties) both.0 ∙ held)
+    | inr old ↦ covers i k p e (ap (slice_get list) new.0 ∙ at) old
   ]
+  | inr old ↦ covers i k q e old there
+]
 
 pub keeps-leg : (h : Horizon) (before : Draft) (i : ℕ) (p : Pairing) (k : ℕ) (d : Duty) (l : Leg) → IsBegunDraft h before → slice_get before.list i ≡ Some p → slice_get p.duties k ≡ Some d → leg_fault d l ≡ None
     → IsBegunDraft h (with_leg before i p k d l)

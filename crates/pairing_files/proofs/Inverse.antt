@@ -1,12 +1,11 @@
 -- What a step that gave a value was given.
-use Rattle.std.proofs.Common.{◌≡◌, ℕ, ◌+◌, ◌≤◌, ◌<◌, List, [], ◌∷◌, length, Bool, true, false, not, ◌&&◌, ◌||◌, nat_le, nat_lt, ◌==◌, if◌then◌else◌, Option, Some, None, Result, Ok, Err, refl, arith, sym, ap, subst, ◌∙◌, add-zero}
+use Rattle.std.proofs.Common.{◌≡◌, ℕ, ◌+◌, ◌≤◌, ◌<◌, List, [], ◌∷◌, length, Bool, true, false, not, ◌&&◌, ◌||◌, nat_le, nat_lt, ◌==◌, if◌then◌else◌, Option, Some, None, Result, Ok, Err, refl, arith, subst}
 use Rattle.std.specs.List.{list_all}
 use Rattle.std.specs.Str.{is_utf8}
 use Rattle.std.proofs.lemmas.Bool.Decides.{nat_tests}
 use Rattle.field_text.specs.declared.field_fault.FieldFault.{FieldFault}
 use Rattle.field_text.specs.declared.file_fault.FileCode.{FileCode}
 use Rattle.field_text.specs.declared.file_fault.FileCode.TheVariants.{Utf8, Width, Header}
-use Rattle.field_text.specs.declared.file_fault.FileFault.{FileFault}
 use Rattle.field_text.specs.declared.file_fault.FileName.{FileName}
 use Rattle.field_text.specs.Steps.{◌>>=◌, or_fault}
 use Rattle.field_text.specs.Rows.{in_column, at_row, rows_from, file, same_record}
@@ -111,7 +110,7 @@ module _ {S : Type 0} (name : FileName) (row : S → List (List ℕ) → Result 
   rows-keep n k s t (r ∷ rs) p e = go (row s r) refl e (λ u q f. rows-keep (n + 1) (k + 1) u t rs q f)
     where
       go : (x : Result S FileCode) → row s r ≡ x → (at_row name n x >>= (λ u. rows_from name row (n + 1) u rs)) ≡ Ok t
-        → ((u : S) → P (k + 1) u → rows_from name row (n + 1) u rs ≡ Ok t → P (k + 1 + length rs) t) → P (k + length (r ∷ rs)) t
+          → ((u : S) → P (k + 1) u → rows_from name row (n + 1) u rs ≡ Ok t → P (k + 1 + length rs) t) → P (k + length (r ∷ rs)) t
       go (Ok u) h f rest =
           let size : k + 1 + length rs ≡ k + length (r ∷ rs) = omega arith in
           subst (λ (m : ℕ). P m t) size (rest u (step k s u r p h) f)
@@ -123,6 +122,6 @@ module _ {S : Type 0} (name : FileName) (row : S → List (List ℕ) → Result 
   file-keeps header s t (h ∷ rows) p e = go (same_record h header) e
     where
       go : (b : Bool) → (if b then rows_from name row 2 s rows else Err (record { file = name; row = 1; code = Header })) ≡ Ok t
-        → (m : ℕ) × (m ≤ length (h ∷ rows)) × P m t
+          → (m : ℕ) × (m ≤ length (h ∷ rows)) × P m t
       go true f = (0 + length rows, omega arith, rows-keep 2 0 s t rows p f)
       go false f = absurd (cc f)

@@ -5,3 +5,5 @@ pub mod ListFacts
 pub mod Inverse
 pub mod Begun
 pub mod Valid
+pub mod LineFacts
+pub mod Ends

@@ -1,8 +1,6 @@
 -- Lists: what is true of their elements, read one by one.
-use Rattle.std.proofs.Common.{◌≡◌, ◌≢◌, ◌⊎◌, ℕ, zero, suc, ◌+◌, ◌-◌, ◌<◌, ◌≤◌, List, [], ◌∷◌, ◌++◌, length, get_or, set, map, Bool, true, false, not, cond, ◌||◌, nat_lt, Option, Some, None, slice_get, slice_set, position, All, AllPairs, refl, arith, sym, ap, subst, ◌∙◌, inl, inr, length-append}
+use Rattle.std.proofs.Common.{◌≡◌, ◌≢◌, ◌⊎◌, ℕ, zero, suc, ◌+◌, ◌-◌, ◌<◌, ◌≤◌, List, [], ◌∷◌, ◌++◌, length, get_or, map, Bool, true, false, not, cond, ◌||◌, nat_lt, Some, None, slice_get, slice_set, position, All, AllPairs, refl, arith, sym, ap, subst, ◌∙◌, inl, inr}
 use Rattle.std.specs.List.{list_any, position_or_len}
-use Rattle.std.proofs.Math.ListN.{get_or-append, length-set}
-use Rattle.std.proofs.Math.Seq.{get_or-append_seam}
 use Rattle.std.proofs.lemmas.Bool.{cases_lt}
 use Rattle.std.proofs.lemmas.Bool.Decides.{nat_tests}
 use Rattle.std.proofs.lemmas.Option.{get_or_from_slice_get, slice_get-get_or, slice_get_within}
@@ -51,28 +49,28 @@ get-set (x ∷ xs) (suc k) (suc j) y z e = elim (get-set xs k j y z e) [ inl a �
 
 pub pairs-push : {X : Type 0} (R : X → X → Type 0) (xs : List X) (y : X) → AllPairs R xs → All (λ x. R x y) xs → AllPairs R (xs ++ y ∷ [])
 pairs-push {X} R xs y pairs all = pairs-from R (xs ++ y ∷ []) (λ (i j : ℕ) (a b : X). λ lt ea eb. elim (get-pushed xs y j b eb) [
-    | inl old ↦ elim (get-pushed xs y i a ea) [
-      | inl before ↦ pairs-get R xs i j a b pairs lt before old
-      | inr after ↦ absurd (let w = slice_get_within xs j b old in let e = after.0 in omega arith)
-    ]
-    | inr new ↦ elim (get-pushed xs y i a ea) [
-      | inl before ↦ subst (λ (v : X). R a v) (sym new.1) (all-get (λ (x : X). R x y) xs i a all before)
-      | inr after ↦ absurd (let e = after.0 in let f = new.0 in omega arith)
-    ]
-  ])
+  | inl old ↦ elim (get-pushed xs y i a ea) [
+    | inl before ↦ pairs-get R xs i j a b pairs lt before old
+    | inr after ↦ absurd (let w = slice_get_within xs j b old in let e = after.0 in omega arith)
+  ]
+  | inr new ↦ elim (get-pushed xs y i a ea) [
+    | inl before ↦ subst (λ (v : X). R a v) (sym new.1) (all-get (λ (x : X). R x y) xs i a all before)
+    | inr after ↦ absurd (let e = after.0 in let f = new.0 in omega arith)
+  ]
+])
 
 -- an element is set to one that stands to the others as it did
 pub pairs-set : {X : Type 0} (R : X → X → Type 0) (xs : List X) (k : ℕ) (x y : X) → slice_get xs k ≡ Some x → ((z : X) → R z x → R z y) → ((z : X) → R x z → R y z) → AllPairs R xs → AllPairs R (slice_set xs k y)
 pairs-set {X} R xs k x y at to from pairs = pairs-from R (slice_set xs k y) (λ (i j : ℕ) (a b : X). λ lt ea eb. elim (get-set xs k j y b eb) [
-    | inl new ↦ elim (get-set xs k i y a ea) [
-      | inl both ↦ absurd (let e = both.0 in let f = new.0 in omega arith)
-      | inr old ↦ subst (λ (v : X). R a v) (sym new.1) (to a (pairs-get R xs i j a x pairs lt old (ap (slice_get xs) new.0 ∙ at)))
-    ]
-    | inr old ↦ elim (get-set xs k i y a ea) [
-      | inl new ↦ subst (λ (v : X). R v b) (sym new.1) (from b (pairs-get R xs i j x b pairs lt (ap (slice_get xs) new.0 ∙ at) old))
-      | inr before ↦ pairs-get R xs i j a b pairs lt before old
-    ]
-  ])
+  | inl new ↦ elim (get-set xs k i y a ea) [
+    | inl both ↦ absurd (let e = both.0 in let f = new.0 in omega arith)
+    | inr old ↦ subst (λ (v : X). R a v) (sym new.1) (to a (pairs-get R xs i j a x pairs lt old (ap (slice_get xs) new.0 ∙ at)))
+  ]
+  | inr old ↦ elim (get-set xs k i y a ea) [
+    | inl new ↦ subst (λ (v : X). R v b) (sym new.1) (from b (pairs-get R xs i j x b pairs lt (ap (slice_get xs) new.0 ∙ at) old))
+    | inr before ↦ pairs-get R xs i j a b pairs lt before old
+  ]
+])
 
 module _ {X : Type 0} (rep rel : X → ℕ) (gap : ℕ) where
   -- nothing is released after the last one
@@ -81,15 +79,15 @@ module _ {X : Type 0} (rep rel : X → ℕ) (gap : ℕ) where
       let here : slice_get xs k ≡ Some (get_or xs k d) = slice_get-get_or xs k d within in
       elim (cases_lt k (length xs - 1)) [
         | inl low ↦
-          let a : rel (get_or xs k d) + gap ≤ rep l = pairs-get (λ (x y : X). rel x + gap ≤ rep y) xs k (length xs - 1) (get_or xs k d) l pairs low here last in
-          let b : rep l ≤ rel l = all-get (λ (x : X). rep x ≤ rel x) xs (length xs - 1) l all last in
-          omega arith
+            let a : rel (get_or xs k d) + gap ≤ rep l = pairs-get (λ (x y : X). rel x + gap ≤ rep y) xs k (length xs - 1) (get_or xs k d) l pairs low here last in
+            let b : rep l ≤ rel l = all-get (λ (x : X). rep x ≤ rel x) xs (length xs - 1) l all last in
+            omega arith
         | inr high ↦
-          let same : k ≡ length xs - 1 = omega arith in
-          let f : Some (get_or xs k d) ≡ Some l = sym here ∙ ap (slice_get xs) same ∙ last in
-          let g : get_or xs k d ≡ l = cc f in
-          let r : rel (get_or xs k d) ≡ rel l = ap rel g in
-          omega arith
+            let same : k ≡ length xs - 1 = omega arith in
+            let f : Some (get_or xs k d) ≡ Some l = sym here ∙ ap (slice_get xs) same ∙ last in
+            let g : get_or xs k d ≡ l = cc f in
+            let r : rel (get_or xs k d) ≡ rel l = ap rel g in
+            omega arith
       ]
 
   -- one that comes after the last one comes after all
@@ -113,7 +111,7 @@ module _ {X : Type 0} (p : X → Bool) where
   prefix-all (x ∷ xs) h k d w = go (p x) refl h k w (prefix-all xs)
     where
       go : (b : Bool) → p x ≡ b → length (x ∷ xs) ≤ cond (not b) (1 + position_or_len p xs) 0 → (k : ℕ) → k < length (x ∷ xs)
-        → (length xs ≤ position_or_len p xs → (k : ℕ) (d : X) → k < length xs → p (get_or xs k d) ≡ false) → p (get_or (x ∷ xs) k d) ≡ false
+          → (length xs ≤ position_or_len p xs → (k : ℕ) (d : X) → k < length xs → p (get_or xs k d) ≡ false) → p (get_or (x ∷ xs) k d) ≡ false
       go true e h k w rest = absurd (omega arith)
       go false e h zero w rest = e
       go false e h (suc k) w rest = rest (omega arith) k d (omega arith)
@@ -139,7 +137,7 @@ module _ {X : Type 0} (p : X → Bool) where
   list_any-false (x ∷ xs) h k d w = go (p x) refl h k w (list_any-false xs)
     where
       go : (b : Bool) → p x ≡ b → (b || list_any p xs) ≡ false → (k : ℕ) → k < length (x ∷ xs)
-        → (list_any p xs ≡ false → (k : ℕ) (d : X) → k < length xs → p (get_or xs k d) ≡ false) → p (get_or (x ∷ xs) k d) ≡ false
+          → (list_any p xs ≡ false → (k : ℕ) (d : X) → k < length xs → p (get_or xs k d) ≡ false) → p (get_or (x ∷ xs) k d) ≡ false
       go true e h k w rest = absurd (cc h)
       go false e h zero w rest = e
       go false e h (suc k) w rest = rest h k d (omega arith)

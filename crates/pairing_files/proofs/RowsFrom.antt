@@ -1,10 +1,10 @@
 -- Reading row by row.
-use Rattle.std.proofs.Common.{◌≡◌, ◌≢◌, ℕ, ◌+◌, List, [], ◌∷◌, true, false, Bool, Result, Ok, Err, refl, sym, ap, subst, ◌∙◌}
+use Rattle.std.proofs.Common.{◌≡◌, ◌≢◌, ℕ, ◌+◌, List, [], ◌∷◌, Result, Ok, Err, refl, sym, ap, subst, ◌∙◌}
 use Rattle.field_text.specs.declared.file_fault.FileCode.{FileCode}
 use Rattle.field_text.specs.declared.file_fault.FileCode.TheVariants as code
 use Rattle.field_text.specs.declared.file_fault.FileFault.{FileFault}
 use Rattle.field_text.specs.declared.file_fault.FileName.{FileName}
-use Rattle.field_text.specs.Rows.{rows_from, file, same_record, Fails, Gives}
+use Rattle.field_text.specs.Rows.{rows_from, file, Fails, Gives}
 use Rattle.pairing_files.specs.Steps.{BeginsWith, LacksHeader}
 
 module _ {S : Type 0} (name : FileName) (row : S → List (List ℕ) → Result S FileCode) (n : ℕ) (s : S) where
@@ -67,7 +67,7 @@ pub row-fails : {S : Type 0} (name : FileName) (row : S → List (List ℕ) → 
     → rows_from name row n s rs ≡ read → rs ≡ r ∷ more → (c ≢ code.NoMemory → row s r ≡ Err c) → e.code ≡ c → (c ≢ code.NoMemory → e ≡ record { file = name; row = n; code = c }) → Fails e.code e read
 row-fails name row n s rs more r c e read same split step of_code of_value =
     fails-so e.code e read (λ k. let some : c ≢ code.NoMemory = λ z. k (of_code ∙ z) in
-      sym same ∙ rows-fault name row n s rs more r c split (step some) ∙ ap Err (sym (of_value some)))
+    sym same ∙ rows-fault name row n s rs more r c split (step some) ∙ ap Err (sym (of_value some)))
 
 -- the header stands first, and the rows after it are read
 pub gives-begins : {S X : Type 0} (view : X → S) (r : Result X FileFault) (name : FileName) (header : List (List ℕ)) (row : S → List (List ℕ) → Result S FileCode) (s : S) (rs rest : List (List (List ℕ)))

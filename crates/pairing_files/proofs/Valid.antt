@@ -1,16 +1,13 @@
 -- What the three files give keeps the checks of pairings.
-use Rattle.std.proofs.Common.{◌≡◌, ◌≢◌, ◌⊎◌, ℕ, zero, suc, ◌+◌, ◌-◌, ◌<◌, ◌≤◌, List, [], ◌∷◌, ◌++◌, length, get_or, map, Bool, true, false, ◌==◌, nat_le, if◌then◌else◌, Option, Some, None, Result, Ok, Err, slice_get, slice_range, position, All, AllPairs, ℤ, pos, negsuc, refl, arith, sym, ap, subst, ◌∙◌, inl, inr, length-append}
+use Rattle.std.proofs.Common.{◌≡◌, ℕ, zero, suc, ◌+◌, ◌-◌, ◌≤◌, List, [], ◌∷◌, length, Bool, true, false, ◌==◌, nat_le, if◌then◌else◌, Option, Some, None, Result, Ok, Err, slice_get, slice_range, position, All, ℤ, pos, negsuc, refl, arith, sym, ap, subst, ◌∙◌, length-append}
 use Rattle.std.specs.Option.{option_map_or}
-use Rattle.std.proofs.lemmas.Bool.Decides.{nat_tests}
 use Rattle.std.proofs.lemmas.List.Elements.{All-nil}
 use Rattle.duty_calendar.specs.Calendar.{horizon_end, up_to, minute_on, local_minute_on}
 use Rattle.duty_calendar.specs.Checks.{IsDuty, IsPairing, ArePairings}
 use Rattle.duty_calendar.specs.declared.horizon.Horizon.{Horizon}
-use Rattle.duty_calendar.specs.declared.event.Flown.{Flown}
 use Rattle.duty_calendar.specs.declared.pairing.Duty.{Duty}
-use Rattle.duty_calendar.specs.declared.pairing.Leg.{Leg}
 use Rattle.duty_calendar.specs.declared.pairing.Pairing.{Pairing}
-use Rattle.field_text.specs.Fields.{shaped, field, moment, clock_value, day_value, moment_value, moment_field, name_field, number_field, minutes_field, station_field}
+use Rattle.field_text.specs.Fields.{shaped, moment, clock_value, day_value, moment_value, moment_field, name_field, number_field, minutes_field}
 use Rattle.field_text.specs.Form.{fault_from, row}
 use Rattle.field_text.specs.Rows.{in_column}
 use Rattle.field_text.specs.Sizes.{longest}
@@ -28,10 +25,10 @@ use Rattle.pairing_files.specs.declared.row.LegRow.{LegRow}
 use Rattle.pairing_files.specs.declared.tables.Place.{Place}
 use Rattle.pairing_files.specs.Columns.{field_at, layover_field, pairing_columns, duty_columns, leg_columns, pairings_header, duties_header, legs_header}
 use Rattle.pairing_files.specs.Drafts.{Draft, no_draft, place_of, with_pairing, with_duty, with_leg}
-use Rattle.pairing_files.specs.Faults.{pairing_fault, duty_fault, leg_fault, first_fault, numbered}
+use Rattle.pairing_files.specs.Faults.{pairing_fault, duty_fault, leg_fault, numbered}
 use Rattle.pairing_files.specs.Files.{unless, place_pairing, place_duty, place_leg, pairing_row, duty_row, leg_row, records_of, pairings_file, duties_file, legs_file, is_idle, is_bare, lacks_parts, part_fault, draft_from, finished, pairings_of}
 use Rattle.pairing_files.specs.Rows.{text_row}
-use Rattle.pairing_files.proofs.Begun.{IsBegunDuty, IsBegun, Covers, names_of, place_at, IsBegunDraft, keeps-pairing, keeps-duty, keeps-leg}
+use Rattle.pairing_files.proofs.Begun.{IsBegunDuty, IsBegun, place_at, IsBegunDraft, keeps-pairing, keeps-duty, keeps-leg}
 use Rattle.pairing_files.proofs.HeaderFacts.{get_or-map_of}
 use Rattle.pairing_files.proofs.Inverse.{both-none, bind-ok, unless-ok, or_fault-ok, in_column-ok, text_row-ok, three-ok, six-ok, le-true, file-keeps}
 use Rattle.pairing_files.proofs.ListFacts.{all-get, all-from, position-none, pairs-map}
@@ -61,7 +58,7 @@ moment-within h [] m e = absurd (cc e)
 moment-within h (b ∷ bs) m e =
     let value : moment_value h (b ∷ bs) ≡ Ok m = shaped-ok (fault_from 1 (row moment) (b ∷ bs)) (moment_value h (b ∷ bs)) m e in
     let parts = two-steps (or_fault Range (clock_value (slice_range (b ∷ bs) 11 16))) (or_fault NoSuchDay (day_value (slice_range (b ∷ bs) 0 10)))
-      (λ (minute : ℕ) (d : ℤ). or_fault OutsideHorizon (minute_on h d minute)) m value in
+    (λ (minute : ℕ) (d : ℤ). or_fault OutsideHorizon (minute_on h d minute)) m value in
     let inside : minute_on h parts.1 parts.0 ≡ Some m = or_fault-ok OutsideHorizon (minute_on h parts.1 parts.0) m parts.2 in
     up_to-le (horizon_end h) (local_minute_on h parts.1 parts.0) m inside
 
@@ -73,7 +70,7 @@ row-keeps_pairing h s t fields good e =
     let p : Pairing = outer.0 in
     let columns : pairing_columns fields ≡ Ok p = text_row-ok 3 fields (pairing_columns fields) p outer.1 in
     let parts = three-ok (in_column 1 (name_field (field_at fields 0))) (in_column 2 (number_field (field_at fields 1))) (in_column 3 (minutes_field (field_at fields 2)))
-      (λ (name : List ℕ) (need credit : ℕ). let made : Pairing = record { name = name; need = need; credit = credit; duties = [] } in made) p columns in
+    (λ (name : List ℕ) (need credit : ℕ). let made : Pairing = record { name = name; need = need; credit = credit; duties = [] } in made) p columns in
     let none : p.duties ≡ [] = sym (ap (λ (q : Pairing). q.duties) parts.3) in
     let placed = unless-ok (pairing_fault s.list p) (with_pairing s p) t outer.2 in
     subst (IsBegunDraft h) placed.1 (keeps-pairing h s p good none placed.0)
@@ -81,9 +78,9 @@ row-keeps_pairing h s t fields good e =
 duty-columns : (h : Horizon) (fields : List (List ℕ)) (r : DutyRow) → duty_columns h fields ≡ Ok r → (r.duty.legs ≡ []) × (r.duty.release ≤ horizon_end h)
 duty-columns h fields r e =
     let parts = six-ok (in_column 1 (name_field (field_at fields 0))) (in_column 2 (number_field (field_at fields 1))) (in_column 3 (moment_field h (field_at fields 2)))
-      (in_column 4 (moment_field h (field_at fields 3))) (in_column 5 (moment_field h (field_at fields 4))) (in_column 6 (layover_field (field_at fields 5)))
-      (λ (name : List ℕ) (number report parked release : ℕ) (layover : Option (List ℕ)).
-        let made : DutyRow = record { name = name; number = number; duty = record { report = report; parked = parked; release = release; layover = layover; legs = [] } } in made) r e in
+    (in_column 4 (moment_field h (field_at fields 3))) (in_column 5 (moment_field h (field_at fields 4))) (in_column 6 (layover_field (field_at fields 5)))
+    (λ (name : List ℕ) (number report parked release : ℕ) (layover : Option (List ℕ)).
+    let made : DutyRow = record { name = name; number = number; duty = record { report = report; parked = parked; release = release; layover = layover; legs = [] } } in made) r e in
     let read = in_column-ok 5 (moment_field h (field_at fields 4)) parts.4 parts.6 in
     let within : parts.4 ≤ horizon_end h = moment-within h (field_at fields 4) parts.4 read in
     (sym (ap (λ (q : DutyRow). q.duty.legs) parts.7), subst (λ (n : ℕ). n ≤ horizon_end h) (ap (λ (q : DutyRow). q.duty.release) parts.7) within)
@@ -99,9 +96,10 @@ row-keeps_duty h s t fields good e =
     let p : Pairing = there.0 in
     let at : slice_get s.list i ≡ Some p = or_fault-ok Unknown (slice_get s.list i) p there.1 in
     let placed = unless-ok (duty_fault h p r.number r.duty) (with_duty s i p r.duty) t there.2 in
-    let size : length (with_duty s i p r.duty).places ≤ length s.places + 1 = omega (arith, length-append s.places (record { pairing = i; duty = length p.duties } ∷ [])) in
-    (subst (IsBegunDraft h) placed.1 (keeps-duty h s i p r.number r.duty good at columns.0 columns.1 placed.0),
-      subst (λ (d : Draft). length d.places ≤ length s.places + 1) placed.1 size)
+    let size : length (with_duty s i p r.duty).places ≤ length s.places + 1 = omega (arith, length-append s.places (record { pairing = i; duty = length p.duties } ∷ [])) in (
+      subst (IsBegunDraft h) placed.1 (keeps-duty h s i p r.number r.duty good at columns.0 columns.1 placed.0),
+      subst (λ (d : Draft). length d.places ≤ length s.places + 1) placed.1 size,
+    )
 
 numbered-place : {A : Type 0} (xs : List A) (n : ℕ) (x : A) → numbered xs n ≡ Some x → slice_get xs (n - 1) ≡ Some x
 numbered-place xs zero x e = absurd (cc e)
@@ -149,14 +147,14 @@ files_keep h pairings duties legs d e =
     let first = bind-ok (pairings_file pairings no_draft) (λ (named : Draft). duties_file h duties named >>= (λ (dutied : Draft). legs_file h legs dutied)) d e in
     let second = bind-ok (duties_file h duties first.0) (λ (dutied : Draft). legs_file h legs dutied) d first.2 in
     let one = file-keeps Pairings pairing_row (λ (k : ℕ) (s : Draft). IsRead h 0 s)
-      (λ (k : ℕ) (s t : Draft) (r : List (List ℕ)). λ g f. record { begun = row-keeps_pairing h s t r g.begun f; few = omega (arith, g.few, ap length (pairing-places s t r f)) })
-      pairings_header no_draft first.0 (records_of pairings) (record { begun = begun-none h; few = omega arith }) first.1 in
+    (λ (k : ℕ) (s t : Draft) (r : List (List ℕ)). λ g f. record { begun = row-keeps_pairing h s t r g.begun f; few = omega (arith, g.few, ap length (pairing-places s t r f)) })
+    pairings_header no_draft first.0 (records_of pairings) (record { begun = begun-none h; few = omega arith }) first.1 in
     let two = file-keeps Duties (duty_row h) (λ (k : ℕ) (s : Draft). IsRead h k s)
-      (λ (k : ℕ) (s t : Draft) (r : List (List ℕ)). λ g f. let kept = row-keeps_duty h s t r g.begun f in record { begun = kept.0; few = omega (arith, kept.1, g.few) })
-      duties_header first.0 second.0 (records_of duties) one.2 second.1 in
+    (λ (k : ℕ) (s t : Draft) (r : List (List ℕ)). λ g f. let kept = row-keeps_duty h s t r g.begun f in record { begun = kept.0; few = omega (arith, kept.1, g.few) })
+    duties_header first.0 second.0 (records_of duties) one.2 second.1 in
     let three = file-keeps Legs (leg_row h) (λ (k : ℕ) (s : Draft). IsRead h two.0 s)
-      (λ (k : ℕ) (s t : Draft) (r : List (List ℕ)). λ g f. let kept = row-keeps_leg h s t r g.begun f in record { begun = kept.0; few = omega (arith, g.few, ap length kept.1) })
-      legs_header second.0 d (records_of legs) two.2 second.2 in
+    (λ (k : ℕ) (s t : Draft) (r : List (List ℕ)). λ g f. let kept = row-keeps_leg h s t r g.begun f in record { begun = kept.0; few = omega (arith, g.few, ap length kept.1) })
+    legs_header second.0 d (records_of legs) two.2 second.2 in
     record { begun = three.2.begun; few = omega (arith, three.2.few, two.1, length-records duties) }
 
 -- the finished list
@@ -198,22 +196,22 @@ finished-valid h d list good e =
     let busy_all = position-none is_idle d.list (none-lacks Pairings (position is_idle d.list) both.0) in
     let clad_all = position-none (is_bare d.list) d.places (none-lacks Duties (position (is_bare d.list) d.places) both.1) in
     let whole : All (IsPairing h) d.list = all-from (IsPairing h) d.list (λ (i : ℕ) (p : Pairing). λ at.
-      let b = all-get (IsBegun h) d.list i p good.each at in
-      record {
-        some_need = b.some_need;
-        few_need = b.few_need;
-        few_credit = b.few_credit;
-        some_duties = busy (length p.duties) (all-get (λ (x : Pairing). is_idle x ≡ false) d.list i p busy_all at);
-        few_duties = b.few_duties;
-        each_duty = all-from IsDuty p.duties (λ (k : ℕ) (x : Duty). λ there.
+    let b = all-get (IsBegun h) d.list i p good.each at in
+    record {
+      some_need = b.some_need;
+      few_need = b.few_need;
+      few_credit = b.few_credit;
+      some_duties = busy (length p.duties) (all-get (λ (x : Pairing). is_idle x ≡ false) d.list i p busy_all at);
+      few_duties = b.few_duties;
+      each_duty = all-from IsDuty p.duties (λ (k : ℕ) (x : Duty). λ there.
           let c = good.covered i k p x at there in
           let worn = all-get (λ (z : Place). is_bare d.list z ≡ false) d.places c.0 (place_at i k) clad_all c.1 in
           whole-duty x (all-get IsBegunDuty p.duties k x b.each_duty there) (bare-at d.list i k p x at there worn));
-        in_order = b.in_order;
-        coming = b.coming;
-        begins = b.begins;
-        ends = b.ends;
-      }) in
+      in_order = b.in_order;
+      coming = b.coming;
+      begins = b.begins;
+      ends = b.ends;
+    }) in
     subst (ArePairings h) done.1 (record {
       few = good.few;
       each = whole;

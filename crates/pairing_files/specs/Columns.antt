@@ -1,9 +1,6 @@
 -- What the columns of a row say by themselves.
-use Rattle.std.specs.Prelude.{◌≡◌, ℕ, List, [], ◌∷◌, length, codes, slice_index_or, Option, Some, None, Result, Ok}
-use Rattle.duty_calendar.specs.declared.event.Flown.{Flown}
+use Rattle.std.specs.Prelude.{ℕ, List, [], ◌∷◌, codes, slice_index_or, Option, Some, None, Result, Ok}
 use Rattle.duty_calendar.specs.declared.horizon.Horizon.{Horizon}
-use Rattle.duty_calendar.specs.declared.pairing.Duty.{Duty}
-use Rattle.duty_calendar.specs.declared.pairing.Leg.{Leg}
 use Rattle.duty_calendar.specs.declared.pairing.Pairing.{Pairing}
 use Rattle.field_text.specs.Fields.{name_field, number_field, minutes_field, moment_field, station_field}
 use Rattle.field_text.specs.Rows.{in_column}

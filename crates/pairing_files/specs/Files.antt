@@ -1,5 +1,5 @@
 -- How the files of pairings, duties and legs read, one after another.
-use Rattle.std.specs.Prelude.{◌≡◌, ℕ, ◌+◌, ◌-◌, Bool, true, false, List, [], length, position, slice_get, Option, Some, None, Result, Ok, Err, ◌==◌}
+use Rattle.std.specs.Prelude.{ℕ, ◌+◌, ◌-◌, Bool, false, List, length, position, slice_get, Option, Some, None, Result, Ok, Err, ◌==◌}
 use Rattle.std.specs.Option.{option_map_or}
 use Rattle.csv.specs.Reading.{default_config, records, strip_bom}
 use Rattle.duty_calendar.specs.declared.horizon.Horizon.{Horizon}

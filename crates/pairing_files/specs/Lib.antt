@@ -5,3 +5,4 @@ pub mod Columns
 pub mod Faults
 pub mod Files
 pub mod Steps
+pub mod Texts

@@ -6,18 +6,27 @@ use duty_calendar::{Duty, Horizon, Leg, Pairing};
 use field_text::FileCode;
 
 pub const MOST_PAIRINGS: usize = 600;
+
 pub const MOST_DUTIES: usize = 12;
+
 pub const MOST_LEGS: usize = 8;
+
 pub const MOST_NEED: u32 = 9;
+
 pub const MOST_CREDIT: u32 = 12_000;
 
 pub const PAIRINGS_LIMIT: u32 = 2;
+
 pub const DUTIES_LIMIT: u32 = 3;
+
 pub const LEGS_LIMIT: u32 = 4;
+
 pub const NEED_LIMIT: u32 = 5;
+
 pub const CREDIT_LIMIT: u32 = 6;
 
 const MONTH_BEGIN: u32 = 525_600;
+
 const REST: u32 = 600;
 
 fn is_duty_in_order(duty: &Duty) -> bool
@@ -67,7 +76,12 @@ fn report_fault(horizon: &Horizon, duties: &[Duty], report: u32) -> Option<FileC
 }
 
 /// What is wrong with a duty of this number after the pairing's duties.
-pub fn duty_fault(horizon: &Horizon, pairing: &Pairing, number: u32, duty: &Duty) -> Option<FileCode>
+pub fn duty_fault(
+    horizon: &Horizon,
+    pairing: &Pairing,
+    number: u32,
+    duty: &Duty,
+) -> Option<FileCode>
     ensures value { result ≡ duty_fault horizon.now pairing.now number duty.now }
 {
     let duties = pairing.duties.as_slice();
@@ -89,7 +103,9 @@ pub fn duty_fault(horizon: &Horizon, pairing: &Pairing, number: u32, duty: &Duty
 fn is_leg_within(duty: &Duty, leg: &Leg) -> bool
     ensures value { result ≡ is_leg_within duty.now leg.now }
 {
-    duty.report <= leg.flown.out_at && leg.flown.out_at < leg.flown.in_at && leg.flown.in_at <= duty.parked
+    duty.report <= leg.flown.out_at
+        && leg.flown.out_at < leg.flown.in_at
+        && leg.flown.in_at <= duty.parked
 }
 
 fn is_before_last(legs: &[Leg], leg: &Leg) -> bool

@@ -19,7 +19,11 @@ use field_text::{FileCode, FileFault, FileName, Records, bytes_at};
 use std::alloc::Global;
 
 static PAIRINGS_HEADER: [&[u8]; 3] = [b"pairing", b"need", b"credit"];
-static DUTIES_HEADER: [&[u8]; 6] = [b"pairing", b"no", b"report", b"parked", b"release", b"layover"];
+
+static DUTIES_HEADER: [&[u8]; 6] = [
+    b"pairing", b"no", b"report", b"parked", b"release", b"layover",
+];
+
 static LEGS_HEADER: [&[u8]; 6] = [b"pairing", b"no", b"from", b"to", b"out", b"in"];
 
 /// Whether the record has just these fields.
@@ -38,7 +42,12 @@ fn has_fields(row: &ByteRecord, header: &[&[u8]]) -> bool
 }
 
 /// Takes the header off.
-fn read_header(alloc: Global, file: FileName, records: &mut Records<'_>, header: &[&[u8]]) -> Result<(), FileFault>
+fn read_header(
+    alloc: Global,
+    file: FileName,
+    records: &mut Records<'_>,
+    header: &[&[u8]],
+) -> Result<(), FileFault>
     ensures there { OnOk result (BeginsWith (map (λ f. f.now) header.now) records.old records.new) }
     ensures fault { IfErr result (λ e. e.code ≢ NoMemory → LacksHeader (map (λ f. f.now) header.now) records.old × (e ≡ record { file = file; row = 1; code = Header })) }
 {
@@ -52,7 +61,11 @@ fn read_header(alloc: Global, file: FileName, records: &mut Records<'_>, header:
 }
 
 /// The rows of pairings from the second on.
-fn read_pairing_rows(alloc: Global, tables: &mut Tables, records: &mut Records<'_>) -> Result<(), FileFault>
+fn read_pairing_rows(
+    alloc: Global,
+    tables: &mut Tables,
+    records: &mut Records<'_>,
+) -> Result<(), FileFault>
     requires short { length records.old ≤ longest }
     requires named { IsNamed tables.old }
     ensures rows { Gives (λ _. draft_of tables.new) result (rows_from Pairings pairing_row 2 (draft_of tables.old) records.old) }
@@ -69,7 +82,12 @@ fn read_pairing_rows(alloc: Global, tables: &mut Tables, records: &mut Records<'
 }
 
 /// The rows of duties from the second on.
-fn read_duty_rows(alloc: Global, tables: &mut Tables, records: &mut Records<'_>, horizon: &Horizon) -> Result<(), FileFault>
+fn read_duty_rows(
+    alloc: Global,
+    tables: &mut Tables,
+    records: &mut Records<'_>,
+    horizon: &Horizon,
+) -> Result<(), FileFault>
     requires short { length records.old ≤ longest }
     requires named { IsNamed tables.old }
     ensures rows { Gives (λ _. draft_of tables.new) result (rows_from Duties (duty_row horizon.now) 2 (draft_of tables.old) records.old) }
@@ -86,7 +104,12 @@ fn read_duty_rows(alloc: Global, tables: &mut Tables, records: &mut Records<'_>,
 }
 
 /// The rows of legs from the second on.
-fn read_leg_rows(alloc: Global, tables: &mut Tables, records: &mut Records<'_>, horizon: &Horizon) -> Result<(), FileFault>
+fn read_leg_rows(
+    alloc: Global,
+    tables: &mut Tables,
+    records: &mut Records<'_>,
+    horizon: &Horizon,
+) -> Result<(), FileFault>
     requires short { length records.old ≤ longest }
     requires named { IsNamed tables.old }
     ensures rows { Gives (λ _. draft_of tables.new) result (rows_from Legs (leg_row horizon.now) 2 (draft_of tables.old) records.old) }
@@ -103,7 +126,11 @@ fn read_leg_rows(alloc: Global, tables: &mut Tables, records: &mut Records<'_>, 
 }
 
 /// The records of pairings: the header, and the rows.
-fn read_pairing_records(alloc: Global, tables: &mut Tables, records: &mut Records<'_>) -> Result<(), FileFault>
+fn read_pairing_records(
+    alloc: Global,
+    tables: &mut Tables,
+    records: &mut Records<'_>,
+) -> Result<(), FileFault>
     requires short { length records.old ≤ longest + 1 }
     requires named { IsNamed tables.old }
     ensures file { Gives (λ _. draft_of tables.new) result (file Pairings pairings_header pairing_row (draft_of tables.old) records.old) }
@@ -127,7 +154,12 @@ pub fn read_pairing_file(alloc: Global, tables: &mut Tables, text: &[u8]) -> Res
 }
 
 /// The records of duties: the header, and the rows.
-fn read_duty_records(alloc: Global, tables: &mut Tables, records: &mut Records<'_>, horizon: &Horizon) -> Result<(), FileFault>
+fn read_duty_records(
+    alloc: Global,
+    tables: &mut Tables,
+    records: &mut Records<'_>,
+    horizon: &Horizon,
+) -> Result<(), FileFault>
     requires short { length records.old ≤ longest + 1 }
     requires named { IsNamed tables.old }
     ensures file { Gives (λ _. draft_of tables.new) result (file Duties duties_header (duty_row horizon.now) (draft_of tables.old) records.old) }
@@ -140,7 +172,12 @@ fn read_duty_records(alloc: Global, tables: &mut Tables, records: &mut Records<'
 }
 
 /// The file of duties, after that of pairings.
-pub fn read_duty_file(alloc: Global, tables: &mut Tables, text: &[u8], horizon: &Horizon) -> Result<(), FileFault>
+pub fn read_duty_file(
+    alloc: Global,
+    tables: &mut Tables,
+    text: &[u8],
+    horizon: &Horizon,
+) -> Result<(), FileFault>
     requires short { length text.now ≤ longest }
     requires named { IsNamed tables.old }
     ensures file { Gives (λ _. draft_of tables.new) result (duties_file horizon.now text.now (draft_of tables.old)) }
@@ -151,7 +188,12 @@ pub fn read_duty_file(alloc: Global, tables: &mut Tables, text: &[u8], horizon: 
 }
 
 /// The records of legs: the header, and the rows.
-fn read_leg_records(alloc: Global, tables: &mut Tables, records: &mut Records<'_>, horizon: &Horizon) -> Result<(), FileFault>
+fn read_leg_records(
+    alloc: Global,
+    tables: &mut Tables,
+    records: &mut Records<'_>,
+    horizon: &Horizon,
+) -> Result<(), FileFault>
     requires short { length records.old ≤ longest + 1 }
     requires named { IsNamed tables.old }
     ensures file { Gives (λ _. draft_of tables.new) result (file Legs legs_header (leg_row horizon.now) (draft_of tables.old) records.old) }
@@ -164,7 +206,12 @@ fn read_leg_records(alloc: Global, tables: &mut Tables, records: &mut Records<'_
 }
 
 /// The file of legs, after the other two.
-pub fn read_leg_file(alloc: Global, tables: &mut Tables, text: &[u8], horizon: &Horizon) -> Result<(), FileFault>
+pub fn read_leg_file(
+    alloc: Global,
+    tables: &mut Tables,
+    text: &[u8],
+    horizon: &Horizon,
+) -> Result<(), FileFault>
     requires short { length text.now ≤ longest }
     requires named { IsNamed tables.old }
     ensures file { Gives (λ _. draft_of tables.new) result (legs_file horizon.now text.now (draft_of tables.old)) }

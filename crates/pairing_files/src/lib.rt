@@ -3,13 +3,16 @@
 
 mod fault;
 mod files;
+mod lines;
 mod parts;
+mod printer;
 mod reader;
 mod row;
 mod rows;
 mod steps;
 mod tables;
 
+pub use printer::{PairingTexts, put_pairings};
 pub use reader::read_pairings;
 
 #[cfg(test)]

@@ -14,7 +14,14 @@ use field_text::FileFault;
 use std::alloc::Global;
 
 /// The rows of the three files, one file after another.
-fn read_files(alloc: Global, tables: &mut Tables, pairings: &[u8], duties: &[u8], legs: &[u8], horizon: &Horizon) -> Result<(), FileFault>
+fn read_files(
+    alloc: Global,
+    tables: &mut Tables,
+    pairings: &[u8],
+    duties: &[u8],
+    legs: &[u8],
+    horizon: &Horizon,
+) -> Result<(), FileFault>
     requires short_pairings { length pairings.now ≤ longest }
     requires short_duties { length duties.now ≤ longest }
     requires short_legs { length legs.now ≤ longest }

@@ -8,7 +8,9 @@ ghost use Rattle.pairing_files.specs.Columns.{layover_field, pairing_columns, du
 use crate::rows::in_column;
 use csv::StringRecord;
 use duty_calendar::{Duty, Flown, Horizon, Leg, List, Name, Pairing, Station};
-use field_text::{FieldFault, FileCode, read_minutes, read_moment, read_name, read_number, read_station, text_at};
+use field_text::{
+    FieldFault, FileCode, read_minutes, read_moment, read_name, read_number, read_station, text_at,
+};
 use std::alloc::Global;
 
 /// A duty without legs, with its pairing's name and its number in the pairing, from 1.
@@ -59,7 +61,11 @@ pub fn pairing_columns(alloc: Global, row: &StringRecord) -> Result<Pairing, Fil
 }
 
 /// The duty of a row, without legs.
-pub fn duty_columns(alloc: Global, row: &StringRecord, horizon: &Horizon) -> Result<DutyRow, FileCode>
+pub fn duty_columns(
+    alloc: Global,
+    row: &StringRecord,
+    horizon: &Horizon,
+) -> Result<DutyRow, FileCode>
     requires width { length (fields_of row.now) ≡ 6 }
     requires short { AreWithin longest (fields_of row.now) }
     ensures value { result ≡ duty_columns horizon.now (fields_of row.now) }

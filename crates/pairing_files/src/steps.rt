@@ -90,7 +90,12 @@ fn place_duty(tables: &mut Tables, row: DutyRow, horizon: &Horizon) -> Result<()
 }
 
 /// Adds the duty of a row.
-pub fn add_duty_row(alloc: Global, tables: &mut Tables, raw: ByteRecord, horizon: &Horizon) -> Result<(), FileCode>
+pub fn add_duty_row(
+    alloc: Global,
+    tables: &mut Tables,
+    raw: ByteRecord,
+    horizon: &Horizon,
+) -> Result<(), FileCode>
     requires short { AreWithin longest (fields_of raw) }
     requires named { IsNamed tables.old }
     ensures row { RowGives (λ _. draft_of tables.new) result (duty_row horizon.now (draft_of tables.old) (fields_of raw)) }

@@ -6,7 +6,9 @@ ghost use Rattle.field_text.specs.declared.file_fault.FileCode.TheVariants.{NoMe
 ghost use Rattle.pairing_files.specs.Drafts.{draft_of, no_draft, is_called, place_of, with_pairing, with_duty, with_leg, IsNamed};
 ghost use Rattle.pairing_files.specs.Faults.{pairing_fault};
 
-use crate::fault::{CREDIT_LIMIT, MOST_CREDIT, MOST_NEED, MOST_PAIRINGS, NEED_LIMIT, PAIRINGS_LIMIT};
+use crate::fault::{
+    CREDIT_LIMIT, MOST_CREDIT, MOST_NEED, MOST_PAIRINGS, NEED_LIMIT, PAIRINGS_LIMIT,
+};
 use duty_calendar::{Copied, Duty, Leg, List, Name, Pairing};
 use field_text::FileCode;
 use indexmap::IndexSet;

@@ -1,4 +1,4 @@
-use Rattle.std.proofs.Common.{◌≡◌, ◌+◌, ◌∙◌, sym, ap, length, arith}
+use Rattle.std.proofs.Common.{◌∙◌, sym, ap, length, arith}
 use Rattle.csv.specs.Records.{fields_of}
 use Rattle.field_text.specs.declared.file_fault.FileName.TheVariants.{Legs}
 use Rattle.pairing_files.specs.Drafts.{draft_of}
@@ -15,7 +15,7 @@ pub returns-in-Err-clause-rows : goal.returns-in-Err-clause-rows
 returns-in-Err-clause-rows c =
     let some = rw c.in-Some.is at c.in_ok-raw.ensures.next in
     row-fails Legs (leg_row c.args.horizon.now) c.rows.row (draft_of c.rows.tables) c.rows.records c.next.new.records (fields_of c.in-Some.raw) c.in-Err.code c.at_row.result _
-      c.rows.invariant.same some c.in-Err.ensures.row c.at_row.ensures.code c.at_row.ensures.value
+    c.rows.invariant.same some c.in-Err.ensures.row c.at_row.ensures.code c.at_row.ensures.value
 
 pub rows-preserved : goal.rows-preserved
 rows-preserved c =

@@ -1,4 +1,3 @@
-use Rattle.std.proofs.Common.{◌≡◌}
 use Rattle.field_text.specs.declared.file_fault.FileName.TheVariants.{Pairings}
 use Rattle.pairing_files.specs.Columns.{pairings_header}
 use Rattle.pairing_files.specs.Drafts.{draft_of}

@@ -1,4 +1,4 @@
-use Rattle.std.proofs.Common.{◌≡◌, refl}
+use Rattle.std.proofs.Common.{refl}
 use Rattle.pairing_files.proofs.NameFacts.{names-set}
 use Rattle.pairing_files.proofs.tables.Tables.add_leg.Goals as goal
 

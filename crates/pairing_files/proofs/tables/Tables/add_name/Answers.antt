@@ -1,4 +1,4 @@
-use Rattle.std.proofs.Common.{◌≡◌, ◌∙◌}
+use Rattle.std.proofs.Common.{◌∙◌}
 use Rattle.pairing_files.proofs.NameFacts.{insert-new}
 use Rattle.pairing_files.proofs.tables.Tables.add_name.Goals as goal
 
