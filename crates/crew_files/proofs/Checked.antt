@@ -1,5 +1,5 @@
 -- The rows keep the checks of the month's members.
-use Rattle.std.proofs.Common.{◌≡◌, ◌≢◌, ℕ, zero, suc, ◌+◌, ◌<◌, ◌≤◌, List, [], ◌∷◌, ◌++◌, length, get_or, Bool, true, false, not, cond, ◌&&◌, ◌||◌, nat_le, nat_lt, nat_eq, ◌==◌, Result, Ok, Err, refl, sym, ap, subst, ◌∙◌, arith, length-append, All, AllPairs, slice_index_or, true≢false}
+use Rattle.std.proofs.Common.{◌≡◌, ◌≢◌, ℕ, suc, ◌<◌, ◌≤◌, List, [], ◌∷◌, ◌++◌, length, Bool, true, false, not, cond, ◌&&◌, ◌||◌, nat_le, nat_lt, ◌==◌, Result, Ok, Err, refl, sym, ap, subst, ◌∙◌, arith, length-append, All, AllPairs, slice_index_or, true≢false}
 use Rattle.std.specs.List.{list_all, list_any}
 use Rattle.std.specs.Str.{is_utf8, bytes_eq}
 use Rattle.std.specs.Cmp.Lexicographic.{bytes_decides}
@@ -7,8 +7,8 @@ use Rattle.std.proofs.lemmas.Bool.Decides.{nat_tests}
 use Rattle.std.proofs.lemmas.List.Elements.{All-nil, All-cons, All-head, All-tail, All-push, All-weaker}
 use Rattle.std.proofs.lemmas.List.Kept.{AllPairs-cons}
 use Rattle.std.proofs.lemmas.List.Quantifiers.{all_pairs_push}
-use Rattle.duty_calendar.specs.Calendar.{month_end, horizon_end}
-use Rattle.duty_calendar.specs.Checks.{IsFiled, IsMember, AreMembers}
+use Rattle.duty_calendar.specs.Calendar.{month_end}
+use Rattle.duty_calendar.specs.Checks.{IsMember, AreMembers}
 use Rattle.duty_calendar.specs.declared.event.Event.{Event}
 use Rattle.duty_calendar.specs.declared.event.Flown.{Flown}
 use Rattle.duty_calendar.specs.declared.event.Kind.{Kind}
@@ -16,10 +16,9 @@ use Rattle.duty_calendar.specs.declared.horizon.Horizon.{Horizon}
 use Rattle.duty_calendar.specs.declared.member.Member.{Member}
 use Rattle.field_text.specs.declared.file_fault.FileCode.{FileCode}
 use Rattle.field_text.specs.declared.file_fault.FileCode.TheVariants as code
-use Rattle.field_text.specs.declared.file_fault.FileFault.{FileFault}
 use Rattle.field_text.specs.declared.file_fault.FileName.TheVariants as name
 use Rattle.field_text.specs.Fields.{name_field, minutes_field, moment_field}
-use Rattle.field_text.specs.Rows.{in_column, file}
+use Rattle.field_text.specs.Rows.{in_column}
 use Rattle.field_text.specs.Steps.{◌>>=◌}
 use Rattle.crew_files.specs.declared.part.Part.{Part}
 use Rattle.crew_files.specs.declared.part.Part.TheVariants.{History, Fixed}
@@ -28,11 +27,11 @@ use Rattle.crew_files.specs.Crew.{crew_header, crew_row, crew_columns, member_ch
 use Rattle.crew_files.specs.Events.{event_header, event_row, event_columns, event_checked, kind_field, times_fit, flights_fit, last_release, is_in_order, may_report, with_event, part_of, changed}
 use Rattle.crew_files.specs.Limits.{most_events, events_limit}
 use Rattle.crew_files.specs.Flights.{flights_field}
-use Rattle.crew_files.specs.Files.{records_of, crew_file, event_file, file_name, members_of, some_members}
+use Rattle.crew_files.specs.Files.{records_of, crew_file, event_file, members_of, some_members}
 use Rattle.crew_files.proofs.Steps.{bind-value, when-value, unless-value, in_column-value}
 use Rattle.crew_files.proofs.RowsFrom.{file-keep}
 use Rattle.crew_files.proofs.Values.{moment-bound, flights-some}
-use Rattle.crew_files.proofs.Kept.{both, IsRead, IsValue, InOrder, filed, new_member-read, member-from_read, with_event-fixed, with_event-history}
+use Rattle.crew_files.proofs.Kept.{both, IsRead, IsValue, filed, new_member-read, member-from_read, with_event-fixed, with_event-history}
 
 -- members of whom each keeps P, no more than may be, and no two of one name
 pub record AreRead (P : Member → Type 0) (members : List Member) : Type 0 where
@@ -92,8 +91,10 @@ changed-all P Q name change weaker keeps (m ∷ ms) ns p e = by (has_name name m
   where
     first : (n : Member) → change m ≡ Ok n → All Q (n ∷ ms)
     first n c = All-cons Q n ms (keeps m n (All-head P m ms p) c) (All-weaker P Q weaker ms (All-tail P m ms p))
+
     later : (us : List Member) → All Q us → All Q (m ∷ us)
     later us q = All-cons Q m us (weaker m (All-head P m ms p)) q
+
     by : (b : Bool) → cond b (change m >>= (λ (n : Member). Ok (n ∷ ms))) (changed name change ms >>= (λ (us : List Member). Ok (m ∷ us))) ≡ Ok ns → ((us : List Member) → changed name change ms ≡ Ok us → All Q us) → All Q ns
     by true e rest =
         let a = bind-value (change m) (λ (n : Member). Ok (n ∷ ms)) ns e in
@@ -127,22 +128,24 @@ module _ (name : List ℕ) (change : Member → Result Member FileCode) (keeps :
     where
       pairs-tail : (m : Member) (ms : List Member) → AllPairs (λ (a b : Member). a.name ≢ b.name) (m ∷ ms) → AllPairs (λ (a b : Member). a.name ≢ b.name) ms
       pairs-tail m ms p = λ i j d l k. p (suc i) (suc j) d (omega arith) (omega arith)
+
       pairs-head : (m : Member) (ms : List Member) → AllPairs (λ (a b : Member). a.name ≢ b.name) (m ∷ ms) → All (λ (b : Member). m.name ≢ b.name) ms
       pairs-head m ms p = λ k d l. p 0 (suc k) d (omega arith) (omega arith)
+
       by : (b : Bool) → cond b (change m >>= (λ (n : Member). Ok (n ∷ ms))) (changed name change ms >>= (λ (us : List Member). Ok (m ∷ us))) ≡ Ok ns → ((us : List Member) → changed name change ms ≡ Ok us → AllPairs (λ (a b : Member). a.name ≢ b.name) us) → AllPairs (λ (a b : Member). a.name ≢ b.name) ns
       by true e rest =
           let a = bind-value (change m) (λ (n : Member). Ok (n ∷ ms)) ns e in
           let same : a.0 ∷ ms ≡ ns = cc (a.2) in
           let called : a.0.name ≡ m.name = keeps m a.0 a.1 in
           subst (AllPairs (λ (a b : Member). a.name ≢ b.name)) same
-            (AllPairs-cons (λ (a b : Member). a.name ≢ b.name) a.0 ms (subst (λ (n : List ℕ). All (λ (b : Member). n ≢ b.name) ms) (sym called) (pairs-head m ms p)) (pairs-tail m ms p))
+          (AllPairs-cons (λ (a b : Member). a.name ≢ b.name) a.0 ms (subst (λ (n : List ℕ). All (λ (b : Member). n ≢ b.name) ms) (sym called) (pairs-head m ms p)) (pairs-tail m ms p))
       by false e rest =
           let a = bind-value (changed name change ms) (λ (us : List Member). Ok (m ∷ us)) ns e in
           let same : m ∷ a.0 ≡ ns = cc (a.2) in
           subst (AllPairs (λ (a b : Member). a.name ≢ b.name)) same
-            (AllPairs-cons (λ (a b : Member). a.name ≢ b.name) m a.0
-              (changed-all (λ (b : Member). m.name ≢ b.name) (λ (b : Member). m.name ≢ b.name) name change (λ x q. q) (λ x y q c. subst (λ (n : List ℕ). m.name ≢ n) (sym (keeps x y c)) q) ms a.0 (pairs-head m ms p) a.1)
-              (rest a.0 a.1))
+          (AllPairs-cons (λ (a b : Member). a.name ≢ b.name) m a.0
+          (changed-all (λ (b : Member). m.name ≢ b.name) (λ (b : Member). m.name ≢ b.name) name change (λ x q. q) (λ x y q c. subst (λ (n : List ℕ). m.name ≢ n) (sym (keeps x y c)) q) ms a.0 (pairs-head m ms p) a.1)
+          (rest a.0 a.1))
 
 -- what the tests of an event say where it passes them
 record Passed (h : Horizon) (part : Part) (e : Event) (m : Member) : Type 0 where
@@ -162,16 +165,18 @@ passed h part e m n p =
     let c = unless-value (nat_lt 12000 e.credit) (code.Limit 6) _ n f.1 in
     let l = unless-value (nat_le (most_events part) (length (part_of part m))) (code.Limit (events_limit part)) (Ok (with_event part e m)) n c.1 in
     let a = both (times_fit e) (flights_fit e && nat_le (last_release (m.history ++ m.fixed)) e.report) (not-false (is_in_order m e) o.0) in
-    let b = both (flights_fit e) (nat_le (last_release (m.history ++ m.fixed)) e.report) a.1 in
-    (record {
-      times = a.0;
-      flights = b.0;
-      after = grind (arith, nat_tests, b.1);
-      report = not-false (may_report h part e.report) r.0;
-      few_flights = grind (arith, nat_tests, f.0);
-      few_credit = grind (arith, nat_tests, c.0);
-      few = grind (arith, nat_tests, l.0);
-    }, cc (l.1))
+    let b = both (flights_fit e) (nat_le (last_release (m.history ++ m.fixed)) e.report) a.1 in (
+      record {
+        times = a.0;
+        flights = b.0;
+        after = grind (arith, nat_tests, b.1);
+        report = not-false (may_report h part e.report) r.0;
+        few_flights = grind (arith, nat_tests, f.0);
+        few_credit = grind (arith, nat_tests, c.0);
+        few = grind (arith, nat_tests, l.0);
+      },
+      cc (l.1),
+    )
   where
     not-false : (b : Bool) → not b ≡ false → b ≡ true
     not-false true h = refl
@@ -226,18 +231,25 @@ event_columns-value h fields n e p =
   where
     at : ℕ → List ℕ
     at i = slice_index_or fields i []
+
     last : List ℕ → Kind → ℕ → ℕ → ℕ → List Flown → ℕ → Result (List ℕ × Event) FileCode
     last name kind report parked release flights credit = Ok (name, record { kind = kind; report = report; parked = parked; release = release; flights = flights; credit = credit })
+
     six : List ℕ → Kind → ℕ → ℕ → ℕ → List Flown → Result (List ℕ × Event) FileCode
     six name kind report parked release flights = in_column 7 (minutes_field (at 6)) >>= last name kind report parked release flights
+
     five : List ℕ → Kind → ℕ → ℕ → ℕ → Result (List ℕ × Event) FileCode
     five name kind report parked release = in_column 6 (flights_field h kind (at 5)) >>= six name kind report parked release
+
     four : List ℕ → Kind → ℕ → ℕ → Result (List ℕ × Event) FileCode
     four name kind report parked = in_column 5 (moment_field h (at 4)) >>= five name kind report parked
+
     three : List ℕ → Kind → ℕ → Result (List ℕ × Event) FileCode
     three name kind report = in_column 4 (moment_field h (at 3)) >>= four name kind report
+
     two : List ℕ → Kind → Result (List ℕ × Event) FileCode
     two name kind = in_column 3 (moment_field h (at 2)) >>= three name kind
+
     one : List ℕ → Result (List ℕ × Event) FileCode
     one name = in_column 2 (kind_field (at 1)) >>= two name
 

@@ -1,6 +1,5 @@
 -- The columns of a row, one after another.
-use Rattle.std.proofs.Common.{◌≡◌, ◌≢◌, ℕ, List, [], ◌∷◌, ◌++◌, Result, Ok, Err, refl, sym, ap, ◌∙◌, slice_index_or}
-use Rattle.duty_calendar.specs.declared.event.Event.{Event}
+use Rattle.std.proofs.Common.{◌≡◌, ℕ, List, [], Ok, Err, refl, slice_index_or}
 use Rattle.duty_calendar.specs.declared.event.Flown.{Flown}
 use Rattle.duty_calendar.specs.declared.event.Kind.{Kind}
 use Rattle.duty_calendar.specs.declared.horizon.Horizon.{Horizon}
@@ -8,7 +7,6 @@ use Rattle.duty_calendar.specs.declared.member.Member.{Member}
 use Rattle.field_text.specs.declared.file_fault.FileCode.{FileCode}
 use Rattle.field_text.specs.Fields.{name_field, minutes_field, moment_field}
 use Rattle.field_text.specs.Rows.{in_column}
-use Rattle.field_text.specs.Steps.{◌>>=◌}
 use Rattle.crew_files.specs.Crew.{crew_columns, member_checked}
 use Rattle.crew_files.specs.Events.{event_columns, kind_field}
 use Rattle.crew_files.specs.Flights.{flights_field}

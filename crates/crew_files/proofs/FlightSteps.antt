@@ -1,17 +1,16 @@
 -- Reading a list of flights step by step.
-use Rattle.std.proofs.Common.{◌≡◌, ◌≢◌, ℕ, zero, suc, ◌+◌, ◌-◌, ◌*◌, ◌/◌, ◌%◌, ◌<◌, ◌≤◌, List, [], ◌∷◌, ◌++◌, length, get_or, take, drop, Bool, true, false, cond, nat_le, ◌==◌, Option, Some, None, Result, Ok, Err, refl, sym, ap, ◌∙◌, arith, append_assoc, slice_range, add-one}
+use Rattle.std.proofs.Common.{◌≡◌, ◌≢◌, ℕ, suc, ◌+◌, ◌-◌, ◌*◌, ◌%◌, ◌<◌, ◌≤◌, List, [], ◌∷◌, ◌++◌, length, get_or, take, drop, Bool, true, false, cond, nat_le, ◌==◌, Some, None, Result, Ok, Err, refl, sym, ap, ◌∙◌, arith, append_assoc, slice_range, add-one}
 use Rattle.std.proofs.lemmas.Bool.Decides.{nat_tests}
 use Rattle.std.proofs.lemmas.List.{append-nil, drop-drop}
 use Rattle.std.proofs.Math.ListN.{drop_of_length-le}
 use Rattle.std.proofs.Math.Seq.{drop-cons}
 use Rattle.duty_calendar.specs.declared.event.Flown.{Flown}
 use Rattle.duty_calendar.specs.declared.horizon.Horizon.{Horizon}
-use Rattle.field_text.specs.declared.form.Class.{Class}
 use Rattle.field_text.specs.declared.form.Class.TheVariants.{Digit}
 use Rattle.field_text.specs.declared.field_fault.FieldFault.{FieldFault}
 use Rattle.field_text.specs.Codes.{field_code}
 use Rattle.field_text.specs.Form.{is_in}
-use Rattle.crew_files.specs.Flights.{flight_row, flights_fault, earlier, joined, followed, gathered, flight_value, flights_value}
+use Rattle.crew_files.specs.Flights.{flight_row, flights_fault, earlier, joined, followed, flight_value, flights_value}
 
 module _ (text : List ℕ) (i : ℕ) (q : i < length text) where
   pub flights-next : is_in (get_or flight_row (i % 36) Digit) (get_or text i 0) ≡ true → flights_fault i (drop i text) ≡ flights_fault (i + 1) (drop (i + 1) text)
@@ -94,10 +93,10 @@ module _ (h : Horizon) where
       let next : drop 36 (drop (36 * i) text) ≡ drop (36 * (i + 1)) text = drop-drop 36 (36 * i) text ∙ ap (λ (n : ℕ). drop n text) place in
       let here : slice_range (drop (36 * i) text) 0 35 ≡ slice_range text (36 * i) (36 * i + 35) = ap (λ (n : ℕ). take n (drop (36 * i) text)) long in
       let more : flights_value h (k + 1) (drop (36 * i) text) ≡ joined led f (flights_value h k (drop (36 * (i + 1)) text)) =
-          ap (λ (n : ℕ). flights_value h n (drop (36 * i) text)) (add-one k) ∙ value-more k (drop (36 * i) text)
-          ∙ ap (λ (x : List ℕ). joined led (flight_value h x) (flights_value h k (drop 36 (drop (36 * i) text)))) here
-          ∙ ap (λ (x : List ℕ). joined led (flight_value h (slice_range text (36 * i) (36 * i + 35))) (flights_value h k x)) next
-          ∙ ap (λ (x : Result Flown FieldFault). joined led x (flights_value h k (drop (36 * (i + 1)) text))) (sym e) in
+      ap (λ (n : ℕ). flights_value h n (drop (36 * i) text)) (add-one k) ∙ value-more k (drop (36 * i) text)
+      ∙ ap (λ (x : List ℕ). joined led (flight_value h x) (flights_value h k (drop 36 (drop (36 * i) text)))) here
+      ∙ ap (λ (x : List ℕ). joined led (flight_value h (slice_range text (36 * i) (36 * i + 35))) (flights_value h k x)) next
+      ∙ ap (λ (x : Result Flown FieldFault). joined led x (flights_value h k (drop (36 * (i + 1)) text))) (sym e) in
       ap (λ (x : Result (List Flown) FieldFault). joined appended x (flights_value h k (drop (36 * (i + 1)) text))) g
       ∙ joined-step a f (flights_value h k (drop (36 * (i + 1)) text)) ∙ ap (λ (x : Result (List Flown) FieldFault). joined appended a x) (sym more)
 

@@ -1,5 +1,5 @@
 -- A record of seven fields against the header of events.
-use Rattle.std.proofs.Common.{◌≡◌, ◌≢◌, ℕ, zero, suc, ◌<◌, List, [], ◌∷◌, length, get_or, Bool, true, false, ◌&&◌, nat_eq, codes, refl, arith, sym, ap, ◌∙◌}
+use Rattle.std.proofs.Common.{◌≡◌, ℕ, zero, suc, ◌<◌, List, [], ◌∷◌, length, get_or, Bool, true, false, ◌&&◌, codes, refl, arith, ap, ◌∙◌}
 use Rattle.std.specs.Str.{bytes_eq}
 use Rattle.field_text.specs.Rows.{same_record}
 use Rattle.crew_files.specs.Events.{event_header}

@@ -1,24 +1,21 @@
 -- What the rows keep of the members: the checks of the month's members.
-use Rattle.std.proofs.Common.{◌≡◌, ◌≢◌, ℕ, zero, suc, ◌+◌, ◌<◌, ◌≤◌, List, [], ◌∷◌, ◌++◌, length, get_or, Bool, true, false, not, cond, ◌&&◌, nat_le, nat_lt, ◌==◌, fold, Result, Ok, Err, refl, sym, ap, subst, ◌∙◌, arith, append_assoc, length-append, All, AllPairs}
+use Rattle.std.proofs.Common.{◌≡◌, ℕ, suc, ◌<◌, ◌≤◌, List, [], ◌∷◌, ◌++◌, length, Bool, true, false, cond, ◌&&◌, nat_le, nat_lt, ◌==◌, fold, refl, sym, ap, subst, ◌∙◌, arith, append_assoc, length-append, All, AllPairs}
 use Rattle.std.proofs.lemmas.Bool.{eqb-true}
 use Rattle.std.proofs.lemmas.Bool.Decides.{nat_tests}
 use Rattle.std.proofs.lemmas.List.{append-nil}
-use Rattle.std.proofs.lemmas.List.Elements.{All-nil, All-cons, All-head, All-tail, All-push, All-weaker}
+use Rattle.std.proofs.lemmas.List.Elements.{All-nil, All-cons, All-push, All-weaker}
 use Rattle.std.proofs.lemmas.List.Kept.{AllPairs-cons}
 use Rattle.std.proofs.lemmas.List.Quantifiers.{all_pairs_push}
 use Rattle.duty_calendar.specs.Calendar.{month_end, horizon_end}
 use Rattle.duty_calendar.specs.Checks.{IsFiled, IsMember}
-use Rattle.duty_calendar.specs.Events.{IsEvent}
 use Rattle.duty_calendar.specs.Minutes.{is_flight}
 use Rattle.duty_calendar.specs.declared.event.Event.{Event}
 use Rattle.duty_calendar.specs.declared.event.Flown.{Flown}
-use Rattle.duty_calendar.specs.declared.event.Kind.{Kind}
 use Rattle.duty_calendar.specs.declared.horizon.Horizon.{Horizon}
 use Rattle.duty_calendar.specs.declared.member.Member.{Member}
-use Rattle.crew_files.specs.declared.part.Part.{Part}
 use Rattle.crew_files.specs.declared.part.Part.TheVariants.{History, Fixed}
 use Rattle.crew_files.specs.Crew.{new_member}
-use Rattle.crew_files.specs.Events.{are_in_row, times_fit, flights_fit, last_release, is_in_order, may_report, with_event}
+use Rattle.crew_files.specs.Events.{are_in_row, times_fit, flights_fit, last_release, with_event}
 
 -- what holds of both tests
 pub both : (a b : Bool) → (a && b) ≡ true → (a ≡ true) × (b ≡ true)
@@ -37,7 +34,7 @@ in_row-all start stop (f ∷ fs) h =
     let lasts : f.out_at < f.in_at = grind (arith, nat_tests, b.0) in
     let till : f.in_at ≤ stop = grind (arith, nat_tests, c.0) in
     All-cons (λ (g : Flown). (start ≤ g.out_at) × (g.out_at < g.in_at) × (g.in_at ≤ stop)) f fs (from, lasts, till)
-      (All-weaker (λ (g : Flown). (f.in_at ≤ g.out_at) × (g.out_at < g.in_at) × (g.in_at ≤ stop)) (λ (g : Flown). (start ≤ g.out_at) × (g.out_at < g.in_at) × (g.in_at ≤ stop)) (λ g w. (omega (arith, w.0), w.1, w.2)) fs (in_row-all f.in_at stop fs c.1))
+    (All-weaker (λ (g : Flown). (f.in_at ≤ g.out_at) × (g.out_at < g.in_at) × (g.in_at ≤ stop)) (λ (g : Flown). (start ≤ g.out_at) × (g.out_at < g.in_at) × (g.in_at ≤ stop)) (λ g w. (omega (arith, w.0), w.1, w.2)) fs (in_row-all f.in_at stop fs c.1))
 
 pub in_row-pairs : (start stop : ℕ) (fs : List Flown) → are_in_row start stop fs ≡ true → AllPairs (λ (f g : Flown). f.in_at ≤ g.out_at) fs
 unfolding are_in_row
@@ -47,8 +44,8 @@ in_row-pairs start stop (f ∷ fs) h =
     let b = both (nat_lt f.out_at f.in_at) _ a.1 in
     let c = both (nat_le f.in_at stop) _ b.1 in
     AllPairs-cons (λ (f g : Flown). f.in_at ≤ g.out_at) f fs
-      (All-weaker (λ (g : Flown). (f.in_at ≤ g.out_at) × (g.out_at < g.in_at) × (g.in_at ≤ stop)) (λ (g : Flown). f.in_at ≤ g.out_at) (λ g w. w.0) fs (in_row-all f.in_at stop fs c.1))
-      (in_row-pairs f.in_at stop fs c.1)
+    (All-weaker (λ (g : Flown). (f.in_at ≤ g.out_at) × (g.out_at < g.in_at) × (g.in_at ≤ stop)) (λ (g : Flown). f.in_at ≤ g.out_at) (λ g w. w.0) fs (in_row-all f.in_at stop fs c.1))
+    (in_row-pairs f.in_at stop fs c.1)
 
 -- the last release is that of the last event
 last-push : (b : ℕ) (es : List Event) (e : Event) → fold (λ (b : ℕ) (e : Event). e.release) b (es ++ e ∷ []) ≡ e.release
@@ -68,8 +65,8 @@ pub in_order-push : (es : List Event) (e : Event) → InOrder es → last_releas
 in_order-push es e h after lasts = record {
   pairs = all_pairs_push (λ (d e : Event). d.release ≤ e.report) es e h.pairs (λ k d l. let t = h.till k d l in omega arith);
   till = All-push (λ (d : Event). d.release ≤ last_release (es ++ e ∷ [])) es e
-    (All-weaker (λ (d : Event). d.release ≤ last_release es) (λ (d : Event). d.release ≤ last_release (es ++ e ∷ [])) (λ d t. let p = last_release-push es e in omega arith) es h.till)
-    (let p = last_release-push es e in omega arith);
+      (All-weaker (λ (d : Event). d.release ≤ last_release es) (λ (d : Event). d.release ≤ last_release (es ++ e ∷ [])) (λ d t. let p = last_release-push es e in omega arith) es h.till)
+      (let p = last_release-push es e in omega arith);
 }
 
 -- what is kept of a member while events are added

@@ -1,5 +1,5 @@
 -- Appending a piece for each element of a list.
-use Rattle.std.proofs.Common.{◌≡◌, ℕ, ◌+◌, ◌<◌, ◌≤◌, List, [], ◌∷◌, ◌++◌, length, get_or, drop, flat_map, refl, sym, ap, ◌∙◌, append_assoc}
+use Rattle.std.proofs.Common.{◌≡◌, ℕ, ◌+◌, ◌<◌, ◌≤◌, List, [], ◌∷◌, ◌++◌, length, get_or, drop, flat_map, sym, ap, ◌∙◌, append_assoc}
 use Rattle.std.proofs.lemmas.Grind.{flat_map-append}
 use Rattle.std.proofs.lemmas.List.{append-nil, at_drop_more, at_drop_all}
 use Rattle.crew_files.specs.Texts.{line}
@@ -22,6 +22,6 @@ pub line-split : (out n : List ℕ) (xs ys : List (List ℕ)) → (out ++ (n ++ 
 line-split out n xs ys =
     append_assoc out (n ++ flat_map (λ (g : List ℕ). 44 ∷ g) xs) (flat_map (λ (g : List ℕ). 44 ∷ g) ys ++ 10 ∷ [])
     ∙ ap (λ (t : List ℕ). out ++ t) (append_assoc n (flat_map (λ (g : List ℕ). 44 ∷ g) xs) (flat_map (λ (g : List ℕ). 44 ∷ g) ys ++ 10 ∷ [])
-      ∙ ap (λ (t : List ℕ). n ++ t) (sym (append_assoc (flat_map (λ (g : List ℕ). 44 ∷ g) xs) (flat_map (λ (g : List ℕ). 44 ∷ g) ys) (10 ∷ []))
-        ∙ ap (λ (t : List ℕ). t ++ 10 ∷ []) (sym (flat_map-append (λ (g : List ℕ). 44 ∷ g) xs ys)))
-      ∙ sym (append_assoc n (flat_map (λ (g : List ℕ). 44 ∷ g) (xs ++ ys)) (10 ∷ [])))
+    ∙ ap (λ (t : List ℕ). n ++ t) (sym (append_assoc (flat_map (λ (g : List ℕ). 44 ∷ g) xs) (flat_map (λ (g : List ℕ). 44 ∷ g) ys) (10 ∷ []))
+    ∙ ap (λ (t : List ℕ). t ++ 10 ∷ []) (sym (flat_map-append (λ (g : List ℕ). 44 ∷ g) xs ys)))
+    ∙ sym (append_assoc n (flat_map (λ (g : List ℕ). 44 ∷ g) (xs ++ ys)) (10 ∷ [])))

@@ -1,9 +1,7 @@
 -- Steps that may fail, and what a value says of them.
-use Rattle.std.proofs.Common.{◌≡◌, ◌≢◌, ℕ, List, Bool, true, false, cond, Result, Ok, Err, refl, sym, ap, subst, ◌∙◌}
+use Rattle.std.proofs.Common.{◌≡◌, ℕ, Bool, true, false, cond, Result, Ok, Err, refl, sym, subst}
 use Rattle.std.specs.Prelude.{IsErrAnd, IfErr}
 use Rattle.field_text.specs.declared.field_fault.FieldFault.{FieldFault}
-use Rattle.field_text.specs.declared.file_fault.FileCode.{FileCode}
-use Rattle.field_text.specs.declared.file_fault.FileCode.TheVariants as code
 use Rattle.field_text.specs.Rows.{in_column}
 use Rattle.field_text.specs.Steps.{◌>>=◌}
 

@@ -1,5 +1,5 @@
 -- The three files, one after another.
-use Rattle.std.proofs.Common.{◌≡◌, ◌≢◌, ℕ, List, [], ◌∷◌, length, Result, Ok, Err, refl, sym, ap, subst, ◌∙◌, arith}
+use Rattle.std.proofs.Common.{◌≡◌, ◌≢◌, ℕ, List, [], ◌∷◌, length, Ok, Err, refl, sym, ap, subst, ◌∙◌, arith}
 use Rattle.duty_calendar.specs.declared.horizon.Horizon.{Horizon}
 use Rattle.duty_calendar.specs.declared.member.Member.{Member}
 use Rattle.field_text.specs.declared.file_fault.FileCode.TheVariants as code

@@ -1,5 +1,5 @@
 -- What the fields of an event say where they have values.
-use Rattle.std.proofs.Common.{◌≡◌, ◌≢◌, ℕ, zero, suc, ◌+◌, ◌/◌, ◌%◌, ◌<◌, ◌≤◌, List, [], ◌∷◌, length, drop, Bool, true, false, cond, ◌&&◌, nat_le, nat_lt, ◌==◌, slice_index_or, ℤ, pos, negsuc, Option, Some, None, Result, Ok, Err, refl, sym, ap, ◌∙◌, arith, slice_range}
+use Rattle.std.proofs.Common.{◌≡◌, ℕ, zero, suc, ◌+◌, ◌/◌, ◌%◌, ◌≤◌, List, [], ◌∷◌, length, drop, Bool, true, false, cond, nat_le, ◌==◌, slice_index_or, ℤ, pos, negsuc, Option, Some, None, Result, Ok, Err, refl, sym, ap, ◌∙◌, arith, slice_range}
 use Rattle.std.proofs.lemmas.Bool.Decides.{nat_tests}
 use Rattle.duty_calendar.specs.Calendar.{up_to, horizon_end, minute_on}
 use Rattle.duty_calendar.specs.declared.event.Flown.{Flown}
@@ -13,7 +13,7 @@ use Rattle.field_text.specs.Fields.{moment, moment_field, moment_value, clock_va
 use Rattle.field_text.specs.Steps.{◌>>=◌, or_fault}
 use Rattle.field_text.specs.declared.form.Class.TheVariants.{Digit}
 use Rattle.field_text.specs.Form.{is_in}
-use Rattle.crew_files.specs.Flights.{flight_row, flights_fault, flights_field, flights_value, flight_value, joined, flown}
+use Rattle.crew_files.specs.Flights.{flight_row, flights_fault, flights_field, flights_value, flight_value, joined}
 use Rattle.crew_files.proofs.Steps.{bind-value}
 
 up_to-bound : (limit : ℕ) (z : ℤ) (v : ℕ) → up_to limit z ≡ Some v → v ≤ limit

@@ -1,5 +1,5 @@
 -- How a field of flights reads: `out/in` moments, joined by one blank.
-use Rattle.std.specs.Prelude.{◌≡◌, ℕ, zero, suc, ◌+◌, ◌/◌, ◌%◌, List, [], ◌∷◌, ◌++◌, length, drop, slice_range, slice_index_or, Bool, nat_le, ◌==◌, Option, Some, None, Result, Ok, Err, if◌then◌else◌}
+use Rattle.std.specs.Prelude.{ℕ, zero, suc, ◌+◌, ◌/◌, ◌%◌, List, [], ◌∷◌, ◌++◌, length, drop, slice_range, slice_index_or, nat_le, ◌==◌, Option, Some, None, Result, Ok, Err, if◌then◌else◌}
 use Rattle.duty_calendar.specs.declared.event.Flown.{Flown}
 use Rattle.duty_calendar.specs.declared.event.Kind.{Kind}
 use Rattle.duty_calendar.specs.declared.horizon.Horizon.{Horizon}

@@ -1,5 +1,5 @@
 -- How members are spelt in their three files.
-use Rattle.std.specs.Prelude.{◌≡◌, ℕ, ◌≤◌, List, [], ◌∷◌, ◌++◌, All, codes, flat_map}
+use Rattle.std.specs.Prelude.{ℕ, ◌≤◌, List, [], ◌∷◌, ◌++◌, All, codes, flat_map}
 use Rattle.duty_calendar.specs.Calendar.{horizon_end}
 use Rattle.duty_calendar.specs.declared.event.Event.{Event}
 use Rattle.duty_calendar.specs.declared.event.Flown.{Flown}
@@ -9,7 +9,6 @@ use Rattle.duty_calendar.specs.declared.horizon.Horizon.{Horizon}
 use Rattle.duty_calendar.specs.declared.member.Member.{Member}
 use Rattle.field_text.specs.Spelling.{minutes_text, moment_text}
 use Rattle.crew_files.specs.declared.part.Part.{Part}
-use Rattle.crew_files.specs.declared.part.Part.TheVariants.{History, Fixed}
 use Rattle.crew_files.specs.Crew.{crew_header}
 use Rattle.crew_files.specs.Events.{event_header, part_of}
 

@@ -13,7 +13,9 @@ use crate::crew::Crew;
 use crate::rows::{at_row, field_is, in_column, next};
 use csv::ByteRecord;
 use duty_calendar::Name;
-use field_text::{FileCode, FileFault, FileName, Records, as_text, read_minutes, read_name, text_at};
+use field_text::{
+    FileCode, FileFault, FileName, Records, as_text, read_minutes, read_name, text_at,
+};
 use std::alloc::Global;
 
 /// How many members there are at most.
@@ -24,6 +26,7 @@ pub const CREDIT: u32 = 12_000;
 
 /// The numbers of the limits on members and on credit.
 const MEMBERS_LIMIT: u32 = 1;
+
 pub const CREDIT_LIMIT: u32 = 6;
 
 /// Whether a member may come after those that are there.
@@ -48,7 +51,13 @@ fn check_member(crew: &Crew, name: &Name, low: u32, high: u32) -> Result<(), Fil
 }
 
 /// Adds the member that three fields name.
-fn add_member(alloc: Global, crew: &mut Crew, name: &str, low: &str, high: &str) -> Result<(), FileCode>
+fn add_member(
+    alloc: Global,
+    crew: &mut Crew,
+    name: &str,
+    low: &str,
+    high: &str,
+) -> Result<(), FileCode>
     requires name_short { length name.now ≤ longest }
     requires low_short { length low.now ≤ longest }
     requires high_short { length high.now ≤ longest }
@@ -72,7 +81,13 @@ fn add_row(alloc: Global, crew: &mut Crew, raw: ByteRecord) -> Result<(), FileCo
     if row.len() != 3 {
         return Err(FileCode::Width);
     }
-    add_member(alloc, crew, text_at(&row, 0), text_at(&row, 1), text_at(&row, 2))
+    add_member(
+        alloc,
+        crew,
+        text_at(&row, 0),
+        text_at(&row, 1),
+        text_at(&row, 2),
+    )
 }
 
 /// Adds the members of the rows from the second on.

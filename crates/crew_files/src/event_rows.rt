@@ -17,11 +17,15 @@ use crate::part::Part;
 use crate::rows::{at_row, field_is, in_column, next};
 use csv::{ByteRecord, StringRecord};
 use duty_calendar::{Event, Flown, Horizon, Kind, List, Member, Name};
-use field_text::{FieldFault, FileCode, FileFault, FileName, Records, as_text, read_minutes, read_moment, read_name, text_at};
+use field_text::{
+    FieldFault, FileCode, FileFault, FileName, Records, as_text, read_minutes, read_moment,
+    read_name, text_at,
+};
 use std::alloc::Global;
 
 /// How many flights an event has at most, and the number of that limit.
 const FLIGHTS: usize = 8;
+
 const FLIGHTS_LIMIT: u32 = 4;
 
 /// The first minute of the month.
@@ -170,7 +174,12 @@ fn file_name(part: Part) -> FileName
 }
 
 /// Whether an event may come after those of a member, within the limits.
-fn check_event(horizon: &Horizon, part: Part, event: &Event, member: &Member) -> Result<(), FileCode>
+fn check_event(
+    horizon: &Horizon,
+    part: Part,
+    event: &Event,
+    member: &Member,
+) -> Result<(), FileCode>
     ensures ok { OnOk result (event_checked horizon.now part event.now member.now ≡ Ok (with_event part event.now member.now)) }
     ensures err { IfErr result (λ e. event_checked horizon.now part event.now member.now ≡ Err e) }
 {
@@ -193,7 +202,13 @@ fn check_event(horizon: &Horizon, part: Part, event: &Event, member: &Member) ->
 }
 
 /// The place of the member of this name, if the event may come after the member's events.
-fn place_of(crew: &Crew, horizon: &Horizon, part: Part, name: &Name, event: &Event) -> Result<usize, FileCode>
+fn place_of(
+    crew: &Crew,
+    horizon: &Horizon,
+    part: Part,
+    name: &Name,
+    event: &Event,
+) -> Result<usize, FileCode>
     ensures within { IfOk result (λ i. i < length crew.now) }
     ensures ok { IfOk result (λ i. changed name.now (event_checked horizon.now part event.now) crew.now ≡ Ok (with_event_at i part event.now crew.now)) }
     ensures err { IfErr result (λ e. changed name.now (event_checked horizon.now part event.now) crew.now ≡ Err e) }
@@ -204,7 +219,6 @@ fn place_of(crew: &Crew, horizon: &Horizon, part: Part, name: &Name, event: &Eve
     check_event(horizon, part, event, crew.member(i))?;
     Ok(i)
 }
-
 
 /// The name and the event of a row of seven fields.
 fn event_of(alloc: Global, row: &StringRecord, horizon: &Horizon) -> Result<(Name, Event), FileCode>
@@ -232,7 +246,13 @@ fn event_of(alloc: Global, row: &StringRecord, horizon: &Horizon) -> Result<(Nam
 }
 
 /// Adds the event of a row.
-fn add_row(alloc: Global, crew: &mut Crew, part: Part, horizon: &Horizon, raw: ByteRecord) -> Result<(), FileCode>
+fn add_row(
+    alloc: Global,
+    crew: &mut Crew,
+    part: Part,
+    horizon: &Horizon,
+    raw: ByteRecord,
+) -> Result<(), FileCode>
     requires short { AreWithin longest (fields_of raw) }
     ensures ok { OnOk result (event_row horizon.now part crew.old (fields_of raw) ≡ Ok crew.new) }
     ensures err { IfErr result (λ e. e ≢ NoMemory → event_row horizon.now part crew.old (fields_of raw) ≡ Err e) }
@@ -247,7 +267,13 @@ fn add_row(alloc: Global, crew: &mut Crew, part: Part, horizon: &Horizon, raw: B
 }
 
 /// Adds the events of the rows from the second on.
-fn read_rows(alloc: Global, crew: &mut Crew, part: Part, horizon: &Horizon, records: &mut Records<'_>) -> Result<(), FileFault>
+fn read_rows(
+    alloc: Global,
+    crew: &mut Crew,
+    part: Part,
+    horizon: &Horizon,
+    records: &mut Records<'_>,
+) -> Result<(), FileFault>
     requires few { length records.old ≤ longest }
     ensures ok { OnOk result (rows_from (file_name part) (event_row horizon.now part) 2 crew.old records.old ≡ Ok crew.new) }
     ensures err { IfErr result (λ e. Fails e.code e (rows_from (file_name part) (event_row horizon.now part) 2 crew.old records.old)) }
@@ -292,7 +318,13 @@ fn is_header(row: &ByteRecord) -> bool
 }
 
 /// Adds the events of `history.csv` or of `fixed.csv`.
-pub fn read_events(alloc: Global, text: &[u8], crew: &mut Crew, part: Part, horizon: &Horizon) -> Result<(), FileFault>
+pub fn read_events(
+    alloc: Global,
+    text: &[u8],
+    crew: &mut Crew,
+    part: Part,
+    horizon: &Horizon,
+) -> Result<(), FileFault>
     requires short { length text.now ≤ longest }
     ensures ok { OnOk result (event_file horizon.now part text.now crew.old ≡ Ok crew.new) }
     ensures err { IfErr result (λ e. Fails e.code e (event_file horizon.now part text.now crew.old)) }

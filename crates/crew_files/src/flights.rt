@@ -76,7 +76,10 @@ fn earlier(a: FieldFault, b: FieldFault) -> FieldFault
 }
 
 /// A flight of its two moments.
-fn joined(out_at: Result<u32, FieldFault>, in_at: Result<u32, FieldFault>) -> Result<Flown, FieldFault>
+fn joined(
+    out_at: Result<u32, FieldFault>,
+    in_at: Result<u32, FieldFault>,
+) -> Result<Flown, FieldFault>
     ensures value { result ≡ joined flown out_at in_at }
 {
     let out_at = match out_at {
@@ -99,7 +102,10 @@ fn flight_value(text: &[u8], horizon: &Horizon) -> Result<Flown, FieldFault>
     requires long { length text.now ≡ 35 }
     ensures value { result ≡ flight_value horizon.now text.now }
 {
-    joined(moment_of(&text[..17], horizon), moment_of(&text[18..35], horizon))
+    joined(
+        moment_of(&text[..17], horizon),
+        moment_of(&text[18..35], horizon),
+    )
 }
 
 /// Of a fault that came before, if one did, and a later one, the one with the lower code.
@@ -113,7 +119,11 @@ fn first_fault(before: Option<FieldFault>, later: FieldFault) -> FieldFault
 }
 
 /// Adds a flight to those that were read, or a fault to that of those that were not.
-fn gather(flights: &mut List<Flown>, fault: &mut Option<FieldFault>, found: Result<Flown, FieldFault>) -> Result<(), FileCode>
+fn gather(
+    flights: &mut List<Flown>,
+    fault: &mut Option<FieldFault>,
+    found: Result<Flown, FieldFault>,
+) -> Result<(), FileCode>
     ensures ok { OnOk result (gathered fault.new flights.new ≡ joined followed (gathered fault.old flights.old) found) }
     ensures err { IfErr result (λ e. e ≡ NoMemory) }
 {
@@ -149,7 +159,12 @@ fn flights_value(alloc: Global, text: &[u8], horizon: &Horizon) -> Result<List<F
 }
 
 /// The flights of a field of an event.
-pub fn read_flights(alloc: Global, text: &str, kind: Kind, horizon: &Horizon) -> Result<List<Flown>, FileCode>
+pub fn read_flights(
+    alloc: Global,
+    text: &str,
+    kind: Kind,
+    horizon: &Horizon,
+) -> Result<List<Flown>, FileCode>
     requires short { length text.now ≤ longest }
     ensures ok { IfOk result (λ list. flights_field horizon.now kind text.now ≡ Ok list) }
     ensures err { IfErr result (λ e. e ≢ NoMemory → in_column 6 (flights_field horizon.now kind text.now) ≡ Err e) }

@@ -15,7 +15,14 @@ use field_text::{FileCode, FileFault, FileName};
 use std::alloc::Global;
 
 /// Adds the members of three files, in the order of the files.
-fn read_all(alloc: Global, crew: &[u8], history: &[u8], fixed: &[u8], horizon: &Horizon, members: &mut Crew) -> Result<(), FileFault>
+fn read_all(
+    alloc: Global,
+    crew: &[u8],
+    history: &[u8],
+    fixed: &[u8],
+    horizon: &Horizon,
+    members: &mut Crew,
+) -> Result<(), FileFault>
     requires crew_short { length crew.now ≤ longest }
     requires history_short { length history.now ≤ longest }
     requires fixed_short { length fixed.now ≤ longest }

@@ -34,7 +34,11 @@ pub fn at_row(file: FileName, row: u32, code: FileCode) -> FileFault
 }
 
 /// The next record, if there is one.
-pub fn next(alloc: Global, file: FileName, records: &mut Records<'_>) -> Result<Option<ByteRecord>, FileFault>
+pub fn next(
+    alloc: Global,
+    file: FileName,
+    records: &mut Records<'_>,
+) -> Result<Option<ByteRecord>, FileFault>
     ensures next { IfOk result (λ next. MatchOption next (records.old ≡ []) (λ row. records.old ≡ fields_of row ∷ records.new)) }
     ensures short { IfOk result (λ next. IfSome next (λ row. AreWithin longest (fields_of row))) }
     ensures memory { IfErr result (λ e. e.code ≡ NoMemory) }

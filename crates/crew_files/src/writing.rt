@@ -86,7 +86,12 @@ fn put_times(out: &mut List<u8>, event: &Event, horizon: &Horizon) -> Result<(),
 }
 
 /// Appends an event's line up to its release.
-fn put_begin(out: &mut List<u8>, name: &Name, event: &Event, horizon: &Horizon) -> Result<(), Memory>
+fn put_begin(
+    out: &mut List<u8>,
+    name: &Name,
+    event: &Event,
+    horizon: &Horizon,
+) -> Result<(), Memory>
     requires within { EndsWithin horizon.now event.now }
     ensures whole { OnOk result (out.new ≡ out.old ++ (name.now ++ flat_map (λ g. 44 ∷ g) (kind_text event.now.kind ∷ times_fields horizon.now event.now))) }
 {
@@ -108,7 +113,12 @@ fn put_end(out: &mut List<u8>, event: &Event, horizon: &Horizon) -> Result<(), M
     put_bytes(out, b"\n")
 }
 
-fn put_event(out: &mut List<u8>, name: &Name, event: &Event, horizon: &Horizon) -> Result<(), Memory>
+fn put_event(
+    out: &mut List<u8>,
+    name: &Name,
+    event: &Event,
+    horizon: &Horizon,
+) -> Result<(), Memory>
     requires within { EndsWithin horizon.now event.now }
     ensures whole { OnOk result (out.new ≡ out.old ++ line (event_fields horizon.now name.now event.now)) }
 {
@@ -116,7 +126,12 @@ fn put_event(out: &mut List<u8>, name: &Name, event: &Event, horizon: &Horizon) 
     put_end(out, event, horizon)
 }
 
-fn put_events(out: &mut List<u8>, name: &Name, events: &[Event], horizon: &Horizon) -> Result<(), Memory>
+fn put_events(
+    out: &mut List<u8>,
+    name: &Name,
+    events: &[Event],
+    horizon: &Horizon,
+) -> Result<(), Memory>
     requires within { All (EndsWithin horizon.now) events.now }
     ensures whole { OnOk result (out.new ≡ out.old ++ flat_map (λ e. line (event_fields horizon.now name.now e)) events.now) }
 {
@@ -126,7 +141,12 @@ fn put_events(out: &mut List<u8>, name: &Name, events: &[Event], horizon: &Horiz
     Ok(())
 }
 
-fn put_part_of(out: &mut List<u8>, member: &Member, part: Part, horizon: &Horizon) -> Result<(), Memory>
+fn put_part_of(
+    out: &mut List<u8>,
+    member: &Member,
+    part: Part,
+    horizon: &Horizon,
+) -> Result<(), Memory>
     requires within { LiesWithin horizon.now member.now }
     ensures whole { OnOk result (out.new ≡ out.old ++ events_of_member horizon.now part member.now) }
 {
@@ -147,7 +167,12 @@ fn put_crew(alloc: Global, list: &[Member]) -> Result<List<u8>, Memory>
     Ok(out)
 }
 
-fn put_part(alloc: Global, list: &[Member], part: Part, horizon: &Horizon) -> Result<List<u8>, Memory>
+fn put_part(
+    alloc: Global,
+    list: &[Member],
+    part: Part,
+    horizon: &Horizon,
+) -> Result<List<u8>, Memory>
     requires within { All (LiesWithin horizon.now) list.now }
     ensures whole { IfOk result (λ out. out ≡ events_text horizon.now part list.now) }
 {

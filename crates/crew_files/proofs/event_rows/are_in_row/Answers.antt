@@ -1,4 +1,4 @@
-use Rattle.std.proofs.Common.{◌≡◌, ◌+◌, ◌<◌, ◌≤◌, ◌∙◌, sym, arith, get_or, length}
+use Rattle.std.proofs.Common.{◌∙◌, sym, arith}
 use Rattle.crew_files.proofs.InRow.{row-late, row-short, row-behind, row-next, row-end}
 use Rattle.crew_files.proofs.event_rows.are_in_row.Goals as goal
 

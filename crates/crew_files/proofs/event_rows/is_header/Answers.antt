@@ -1,4 +1,4 @@
-use Rattle.std.proofs.Common.{◌≡◌, ◌∙◌, ◌<◌, [], sym, ap, arith, codes, get_or, length, true, false}
+use Rattle.std.proofs.Common.{◌≡◌, ◌∙◌, [], sym, arith, codes, get_or, length, true, false}
 use Rattle.std.specs.Str.{bytes_eq}
 use Rattle.csv.specs.Records.{fields_of}
 use Rattle.crew_files.specs.Events.{event_header}

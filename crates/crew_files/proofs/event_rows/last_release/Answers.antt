@@ -1,4 +1,4 @@
-use Rattle.std.proofs.Common.{◌≡◌, ◌-◌, ◌∙◌, sym, ap, slice_get, length, List, Some, None}
+use Rattle.std.proofs.Common.{◌-◌, ◌∙◌, sym, ap, slice_get, length, List}
 use Rattle.duty_calendar.specs.declared.event.Event.{Event}
 use Rattle.crew_files.proofs.LastEvents.{release-fixed, release-history, release-none}
 use Rattle.crew_files.proofs.event_rows.last_release.Goals as goal

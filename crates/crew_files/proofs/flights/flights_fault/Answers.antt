@@ -1,4 +1,4 @@
-use Rattle.std.proofs.Common.{◌≡◌, ◌+◌, ◌<◌, ◌≤◌, ◌%◌, ◌∙◌, sym, ap, arith, get_or, length, true, false, Some}
+use Rattle.std.proofs.Common.{◌≡◌, ◌%◌, ◌∙◌, sym, ap, arith, get_or, length, true, false, Some}
 use Rattle.field_text.specs.declared.form.Class.TheVariants.{Digit}
 use Rattle.field_text.specs.Form.{is_in}
 use Rattle.crew_files.specs.Flights.{flight_row}

@@ -1,4 +1,4 @@
-use Rattle.std.proofs.Common.{◌≡◌, ◌∙◌, ◌+◌, ◌*◌, ◌/◌, ℕ, sym, ap, arith, Option, drop}
+use Rattle.std.proofs.Common.{◌∙◌, ◌+◌, ◌*◌, sym, ap, arith, Option, drop}
 use Rattle.field_text.specs.declared.field_fault.FieldFault.{FieldFault}
 use Rattle.field_text.specs.Rows.{in_column}
 use Rattle.crew_files.specs.Flights.{gathered}

@@ -1,4 +1,4 @@
-use Rattle.std.proofs.Common.{◌≡◌, ◌∙◌, sym, ap, subst}
+use Rattle.std.proofs.Common.{sym, subst}
 use Rattle.duty_calendar.specs.Checks.{AreMembers}
 use Rattle.crew_files.proofs.Checked.{members_of-valid}
 use Rattle.crew_files.proofs.reading.read_members.Goals as goal

@@ -1,4 +1,4 @@
-use Rattle.std.proofs.Common.{◌≡◌, ◌++◌, ◌∷◌, drop, flat_map}
+use Rattle.std.proofs.Common.{◌≡◌, ◌++◌, drop, flat_map}
 use Rattle.crew_files.specs.Texts.{line, crew_fields, crew_text}
 use Rattle.crew_files.proofs.writing.put_crew.Given as goal
 

@@ -1,4 +1,4 @@
-use Rattle.std.proofs.Common.{◌≡◌, sym, subst}
+use Rattle.std.proofs.Common.{sym, subst}
 use Rattle.crew_files.specs.Texts.{EndsWithin}
 use Rattle.crew_files.proofs.writing.put_events.Goals as goal
 

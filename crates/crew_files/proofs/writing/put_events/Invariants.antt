@@ -1,4 +1,4 @@
-use Rattle.std.proofs.Common.{◌≡◌, ◌++◌, ◌∷◌, drop, flat_map}
+use Rattle.std.proofs.Common.{◌≡◌, ◌++◌, drop, flat_map}
 use Rattle.crew_files.specs.Texts.{line, event_fields}
 use Rattle.crew_files.proofs.writing.put_events.Given as goal
 
