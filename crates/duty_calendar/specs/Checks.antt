@@ -1,6 +1,5 @@
 -- What the readers of the base's files check: rules, pairings and members. Times and credit are in minutes.
-use Rattle.std.specs.Prelude.{◌≡◌, ◌≢◌, ℕ, ◌+◌, ◌≤◌, ◌<◌, true, false, ◌||◌, List, ◌++◌, length, All, AllPairs, slice_get}
-use Rattle.std.specs.List.{list_all}
+use Rattle.std.specs.Prelude.{◌≡◌, ◌≢◌, ℕ, ◌+◌, ◌≤◌, ◌<◌, true, false, IsTrue, List, ◌++◌, length, All, AllPairs, slice_get}
 use Rattle.std.specs.Option.{ForSome}
 use Rattle.duty_calendar.specs.declared.event.Event.{Event}
 use Rattle.duty_calendar.specs.declared.member.Base.{Base}
@@ -11,14 +10,13 @@ use Rattle.duty_calendar.specs.declared.pairing.Duty.{Duty}
 use Rattle.duty_calendar.specs.declared.pairing.Pairing.{Pairing}
 use Rattle.duty_calendar.specs.Calendar.{month_end, horizon_end}
 use Rattle.duty_calendar.specs.Events.{IsEvent}
-use Rattle.duty_calendar.specs.Forms.{is_capital, is_digit}
+use Rattle.duty_calendar.specs.Forms.{is_seat}
 use Rattle.duty_calendar.specs.Minutes.{is_flight}
 
 -- the seat is 1 to 8 capital letters or digits, and at most 31 days off are due
-pub record IsRules (rules : Rules) : Type 0 where
-  pub seat : length rules.seat ≤ 8
-  pub seat_bytes : list_all (λ b. is_capital b || is_digit b) rules.seat ≡ true
-  pub days_off : rules.days_off ≤ 31
+pub record IsRules (r : Rules) : Type 0 where
+  pub seat : IsTrue (is_seat r.seat)
+  pub days_off : r.days_off ≤ 31
 
 -- the times of a duty and of its legs are in order
 pub record IsDuty (d : Duty) : Type 0 where

@@ -4,3 +4,4 @@ pub mod Minutes
 pub mod Events
 pub mod Limits
 pub mod Checks
+pub mod Lending

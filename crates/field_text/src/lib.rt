@@ -15,11 +15,12 @@ mod writing;
 
 pub use field_fault::FieldFault;
 pub use file_fault::{FileCode, FileFault, FileName};
+pub use form::Class;
 pub use laws::{column_laws, word_laws};
 pub use number::{read_minutes, read_number};
 pub use records::Records;
 pub use rows::{as_text, bytes_at, text_at};
-pub use time::{read_clock, read_day, read_moment};
+pub use time::{moment_of, read_clock, read_day, read_moment};
 pub use token::{Token, TokenFault, tokens};
 pub use word::{read_name, read_station};
 pub use writing::{put_bytes, put_clock, put_day, put_minutes, put_moment, put_number};

@@ -145,12 +145,11 @@ pub fn read_day(text: &str) -> Result<Date, FieldFault>
     }
 }
 
-/// The base-local minute, from minute 0 of the horizon, of a moment `YYYY-MM-DDThh:mmZ` in UTC.
-pub fn read_moment(text: &str, horizon: &Horizon) -> Result<u32, FieldFault>
-    requires short { length text.now ≤ longest }
-    ensures value { result ≡ moment_field horizon.now text.now }
+/// The base-local minute, from minute 0 of the horizon, of the bytes of a moment `YYYY-MM-DDThh:mmZ` in UTC.
+pub fn moment_of(bytes: &[u8], horizon: &Horizon) -> Result<u32, FieldFault>
+    requires short { length bytes.now ≤ longest }
+    ensures value { result ≡ moment_field horizon.now bytes.now }
 {
-    let bytes = text.as_bytes();
     if bytes.is_empty() {
         return Err(FieldFault::Empty);
     }
@@ -167,4 +166,12 @@ pub fn read_moment(text: &str, horizon: &Horizon) -> Result<u32, FieldFault>
         Some(found) => Ok(found),
         None => Err(FieldFault::OutsideHorizon),
     }
+}
+
+/// The base-local minute, from minute 0 of the horizon, of a moment `YYYY-MM-DDThh:mmZ` in UTC.
+pub fn read_moment(text: &str, horizon: &Horizon) -> Result<u32, FieldFault>
+    requires short { length text.now ≤ longest }
+    ensures value { result ≡ moment_field horizon.now text.now }
+{
+    moment_of(text.as_bytes(), horizon)
 }

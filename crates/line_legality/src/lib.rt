@@ -11,6 +11,8 @@ mod parts;
 mod rosters;
 mod shortfall;
 mod spans;
+#[cfg(test)]
+mod tests;
 
 pub use illegal::Illegal;
 pub use judging::legal;

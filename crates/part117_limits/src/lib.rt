@@ -4,6 +4,7 @@
 mod broken;
 mod first;
 mod overlap;
+mod past;
 mod peak;
 mod rest;
 mod search;

@@ -6,6 +6,7 @@ ghost use Rattle.duty_calendar.specs.Events.{IsEvent, IsTimeline};
 ghost use Rattle.part117_limits.specs.Reports.{is_due, AtDue};
 ghost use Rattle.part117_limits.specs.Breaches.{IsLeastBreach, has_duty_in};
 
+use crate::past::count_past;
 use duty_calendar::{Event, Kind};
 
 fn is_duty(event: &Event) -> bool
@@ -39,9 +40,8 @@ fn is_rested(events: &[Event], report: u32) -> bool
     !has_duty_in(events, report - 600, report)
 }
 
-/// The least report, in minutes, of a flight that begins in the month or later and has less than 600 minutes of
-/// rest before it (117.25(e)).
-pub fn rest_breach(events: &[Event]) -> Option<u32>
+/// The least report of a flight without rest, where few of the events are old.
+fn first_unrested(events: &[Event]) -> Option<u32>
     requires timeline { IsTimeline events.now }
     ensures least { MatchOption result (AtDue (IsRested events.now) events.now) (IsLeastBreach (IsRested events.now) events.now) }
 {
@@ -74,9 +74,8 @@ fn had_days_free(events: &[Event], report: u32) -> bool
     report.saturating_sub(free_from) >= 1800
 }
 
-/// The least report, in minutes, of a flight that begins in the month or later and has no 1,800 minutes free of
-/// duty in the 10,080 before it (117.25(b)).
-pub fn free30_breach(events: &[Event]) -> Option<u32>
+/// The least report of a flight without days free, where few of the events are old.
+fn first_unfree(events: &[Event]) -> Option<u32>
     requires timeline { IsTimeline events.now }
     ensures least { MatchOption result (AtDue (HadDaysFree events.now) events.now) (IsLeastBreach (HadDaysFree events.now) events.now) }
 {
@@ -86,4 +85,24 @@ pub fn free30_breach(events: &[Event]) -> Option<u32>
         }
     }
     None
+}
+
+/// The least report, in minutes, of a flight that begins in the month or later and has less than 600 minutes of
+/// rest before it (117.25(e)).
+pub fn rest_breach(events: &[Event]) -> Option<u32>
+    requires timeline { IsTimeline events.now }
+    ensures least { MatchOption result (AtDue (IsRested events.now) events.now) (IsLeastBreach (IsRested events.now) events.now) }
+{
+    let past = count_past(events, 515_520);
+    first_unrested(&events[past..])
+}
+
+/// The least report, in minutes, of a flight that begins in the month or later and has no 1,800 minutes free of
+/// duty in the 10,080 before it (117.25(b)).
+pub fn free30_breach(events: &[Event]) -> Option<u32>
+    requires timeline { IsTimeline events.now }
+    ensures least { MatchOption result (AtDue (HadDaysFree events.now) events.now) (IsLeastBreach (HadDaysFree events.now) events.now) }
+{
+    let past = count_past(events, 515_520);
+    first_unfree(&events[past..])
 }

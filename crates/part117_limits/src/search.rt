@@ -1,5 +1,5 @@
 //! The search for the greatest total: the first window, and those that begin or end with an interval.
-ghost use Rattle.std.specs.Prelude.{◌≡◌, ℕ, ◌+◌, ◌^◌, ◌<◌, ◌≤◌, All, length, take};
+ghost use Rattle.std.specs.Prelude.{◌≡◌, ℕ, ◌+◌, ◌^◌, ◌<◌, ◌≤◌, All};
 ghost use Rattle.duty_calendar.specs.Calendar.{horizon_end};
 ghost use Rattle.duty_calendar.specs.Minutes.{is_between, has_flying};
 ghost use Rattle.duty_calendar.specs.Events.{IsEvent, HasFlightsApart, EndsBy};
@@ -7,6 +7,7 @@ ghost use Rattle.part117_limits.specs.Peaks.{has_counted, is_counted, IsWindow, 
 ghost use Rattle.part117_limits.specs.Candidates.{IsAttained, IsBeaten, IsTried};
 
 use crate::overlap::{is_flight, window_minutes};
+use crate::past::count_past;
 use crate::peak::{Minutes, Peak};
 use duty_calendar::{Event, Horizon};
 
@@ -112,19 +113,6 @@ fn peak_of(events: &[Event], minutes: Minutes, width: u32, end: u32) -> Peak
         peak = with_event(events, minutes, width, peak, event);
     }
     peak
-}
-
-/// How many events stand before the first that ends after a minute.
-fn count_past(events: &[Event], minute: u32) -> usize
-    ensures within { result ≤ length events.now }
-    ensures past { All (λ e. e.release ≤ minute) (take result events.now) }
-{
-    for (index, event) in events.iter().enumerate() {
-        if event.release > minute {
-            return index;
-        }
-    }
-    events.len()
 }
 
 /// The greatest total of minutes in the windows of so many minutes that hold a minute of the month or later and

@@ -1,0 +1,78 @@
+//! The walk over the items of a closing proof.
+ghost use Rattle.std.specs.Prelude.{◌^◌, ◌<◌, [], ◌∷◌, length, All, OnOk, IfOk, IfErr};
+ghost use Rattle.roster_model.specs.Decided.{nodes_behind, open_nodes};
+ghost use Rattle.roster_model.specs.Closing.{Closes};
+ghost use Rattle.roster_model.specs.Goals.{IsGoal};
+ghost use Rattle.roster_model.specs.Walk.{Leads};
+ghost use Rattle.cert_checker.specs.Given.{IsPlain};
+ghost use Rattle.cert_checker.specs.Faults.{Fails, IsStepFault};
+ghost use Rattle.cert_checker.specs.Stops.{Stops};
+
+use crate::count::count;
+use crate::fixed::fixed;
+use crate::refusal::{No, StepFault};
+use crate::split::split;
+use roster_model::{Goal, Item, Node, Problem};
+use std::alloc::Global;
+
+/// Goes over one item at an open node, and says whether a node is open behind it.
+fn step(
+    alloc: Global,
+    problem: &Problem,
+    goal: &Goal,
+    node: &mut Node,
+    item: &Item,
+) -> Result<bool, StepFault>
+    requires goal { IsGoal problem.now goal.now }
+    requires plain { IsPlain item.now }
+    ensures goes { IfOk result (λ is_open. Leads problem.now goal.now (node.old ∷ nodes_behind node.old) (item.now ∷ []) (open_nodes is_open node.new)) }
+    ensures fault { IfErr result (IsStepFault (Fails problem.now goal.now node.old item.now)) }
+{
+    match item {
+        Item::Split(member, pairing) => {
+            split(problem, node, *member, *pairing)?;
+            Ok(true)
+        }
+        Item::Count(pairing) => {
+            count(problem, node, *pairing)?;
+            Ok(node.turn())
+        }
+        Item::Fixed(member) => {
+            fixed(alloc, problem, goal, node, *member)?;
+            Ok(node.turn())
+        }
+        Item::NoLine(_, _) | Item::Weights(_, _) => unreachable!(),
+    }
+}
+
+/// The first thing that is wrong with the items of a search, where they do not close the goal.
+pub(crate) fn first_fault(
+    alloc: Global,
+    problem: &Problem,
+    goal: &Goal,
+    search: u32,
+    items: &[Item],
+) -> Result<(), No>
+    requires goal { IsGoal problem.now goal.now }
+    requires plain { All IsPlain items.now }
+    requires countable { length items.now < 2 ^ 32 }
+    ensures closed { OnOk result (Closes problem.now goal.now [] items.now) }
+    ensures fault { IfErr result (Stops problem.now goal.now search items.now) }
+{
+    let mut node = Node::new(alloc);
+    let mut is_open = true;
+    for (at, item) in items.iter().enumerate() {
+        if !is_open {
+            return Err(No::Left(search));
+        }
+        match step(alloc, problem, goal, &mut node, item) {
+            Ok(still_open) => is_open = still_open,
+            Err(StepFault::Of(fault)) => return Err(No::Item(search, at as u32, fault)),
+            Err(StepFault::NoMemory) => return Err(No::NoMemory),
+        }
+    }
+    if is_open {
+        return Err(No::Left(search));
+    }
+    Ok(())
+}

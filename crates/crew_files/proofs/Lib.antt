@@ -1,0 +1,16 @@
+pub mod Steps
+pub mod RowsFrom
+pub mod Values
+pub mod Kept
+pub mod Checked
+pub mod FlightSteps
+pub mod Names
+pub mod LastEvents
+pub mod Columns
+pub mod Together
+pub mod TextRow
+pub mod Headers
+pub mod InRow
+pub mod HeaderSteps
+pub mod Puts
+pub mod Placed

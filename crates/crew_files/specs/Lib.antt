@@ -1,0 +1,7 @@
+pub mod Limits
+pub mod Flights
+pub mod Rows
+pub mod Crew
+pub mod Events
+pub mod Files
+pub mod Texts

@@ -1,0 +1,7 @@
+pub mod Limits
+pub mod Rows
+pub mod Drafts
+pub mod Columns
+pub mod Faults
+pub mod Files
+pub mod Steps

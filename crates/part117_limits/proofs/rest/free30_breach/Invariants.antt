@@ -1,7 +1,0 @@
-use Rattle.std.proofs.Common.{◌≡◌, true, All, take}
-use Rattle.duty_calendar.specs.Limits.{HadDaysFree}
-use Rattle.part117_limits.specs.Reports.{is_due}
-use Rattle.part117_limits.proofs.rest.free30_breach.Given as goal
-
-abbrev pub invariant-loop-event : goal.invariant-loop-event
-invariant-loop-event l = All (λ e. is_due e ≡ true → HadDaysFree l.events e.report) (take l.event-index l.events)

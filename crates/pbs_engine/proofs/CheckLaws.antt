@@ -1,0 +1,151 @@
+-- How `check` ends, from what its stages answer.
+use Rattle.std.proofs.Common.{◌≡◌, ℕ, ◌<◌, Bool, true, false, cond, ltb, List, length, Option, Some, None, Result, Ok, Err, refl, sym, ap, ◌∙◌, inl, inr}
+use Rattle.shelf.specs.Files.{Files, file}
+use Rattle.roster_model.specs.declared.problem.Problem.{Problem}
+use Rattle.roster_model.specs.declared.proof.Item.{Item}
+use Rattle.pbs_engine.specs.FileNames.{name_of, limit_of}
+use Rattle.pbs_engine.specs.declared.file.File.{File}
+use Rattle.pbs_engine.specs.declared.file.File.TheVariants.{Rules, Pairings, Duties, Legs, Crew, History, Fixed, Bids, Certificate, Roster}
+use Rattle.pbs_engine.specs.declared.stop.Stop.{Stop}
+use Rattle.pbs_engine.specs.declared.stop.Stop.TheVariants as stop
+use Rattle.pbs_engine.specs.declared.stop.Refusal.TheVariants as refusal
+use Rattle.pbs_engine.specs.Reading.{◌>>=◌, Inputs, StopIs, within, text_in, texts_in}
+use Rattle.pbs_engine.specs.Checks.{Given, given_in, HasBadInput, NamesProblem, HasLaterForm, HasNoCertificate, NamesProofs, EndsAtRoster, HasNoRosterText, NamesAll, IsJudged, Judges, IsCheck}
+use Rattle.pbs_engine.specs.Stages.{Ends, AreProofsOf, HasProofs, IsRosterOf}
+use Rattle.pbs_engine.specs.Months.{Names}
+
+-- the end of a reading: a file that is missing or too long
+abbrev IsReadEnd : Stop → Type 0
+IsReadEnd (stop.BadInput fault) = ⊥
+IsReadEnd (stop.NotYet f) = ⊥
+IsReadEnd (stop.No why) = ⊥
+IsReadEnd (stop.Missing f) = Unit {0}
+IsReadEnd (stop.ReadFault f) = ⊥
+IsReadEnd (stop.TooLong f) = Unit {0}
+IsReadEnd stop.NoMemory = ⊥
+
+within_ends : (f : File) (o : Option (List ℕ)) (e : Stop) → within f o ≡ Err e → IsReadEnd e
+within_ends f None (stop.BadInput fault) h = absurd cc
+within_ends f None (stop.NotYet g) h = absurd cc
+within_ends f None (stop.No why) h = absurd cc
+within_ends f None (stop.Missing g) h = tt
+within_ends f None (stop.ReadFault g) h = absurd cc
+within_ends f None (stop.TooLong g) h = tt
+within_ends f None stop.NoMemory h = absurd cc
+within_ends f (Some bytes) e h = by (ltb (limit_of f) (length bytes)) e h
+  where
+    by : (b : Bool) (e : Stop) → cond b (Err (stop.TooLong f)) (Ok bytes) ≡ Err e → IsReadEnd e
+    by true (stop.BadInput fault) h = absurd cc
+    by true (stop.NotYet g) h = absurd cc
+    by true (stop.No why) h = absurd cc
+    by true (stop.Missing g) h = tt
+    by true (stop.ReadFault g) h = absurd cc
+    by true (stop.TooLong g) h = tt
+    by true stop.NoMemory h = absurd cc
+    by false e h = absurd cc
+
+text_ends : (files : Files) (f : File) (e : Stop) → text_in files f ≡ Err e → IsReadEnd e
+text_ends files f e h = within_ends f (file files (name_of f)) e h
+
+bind_ends : {A B : Type 0} (r : Result A Stop) (f : A → Result B Stop) → ((e : Stop) → r ≡ Err e → IsReadEnd e) → ((x : A) (e : Stop) → f x ≡ Err e → IsReadEnd e)
+    → (e : Stop) → (r >>= f) ≡ Err e → IsReadEnd e
+bind_ends (Ok x) f first rest e h = rest x e h
+bind_ends (Err d) f first rest e h = let same : d ≡ e = cc in first e (ap Err same)
+
+no_end : {A : Type 0} (x : A) (e : Stop) → Ok x ≡ Err e → IsReadEnd e
+no_end x e h = absurd cc
+
+texts_end : (files : Files) (e : Stop) → texts_in files ≡ Err e → IsReadEnd e
+unfolding texts_in
+texts_end files =
+    bind_ends _ _ (text_ends files Rules) (λ rules.
+    bind_ends _ _ (text_ends files Pairings) (λ pairings.
+    bind_ends _ _ (text_ends files Duties) (λ duties.
+    bind_ends _ _ (text_ends files Legs) (λ legs.
+    bind_ends _ _ (text_ends files Crew) (λ crew.
+    bind_ends _ _ (text_ends files History) (λ history.
+    bind_ends _ _ (text_ends files Fixed) (λ fixed.
+    bind_ends _ _ (text_ends files Bids) (λ bids. no_end _))))))))
+
+given_ends : (files : Files) (e : Stop) → given_in files ≡ Err e → IsReadEnd e
+unfolding given_in
+given_ends files =
+    bind_ends _ _ (texts_end files) (λ inputs. bind_ends _ _ (text_ends files Certificate) (λ certificate. no_end _))
+
+-- ---- the ends
+
+pub ends_at_given : (files : Files) (e : Stop) → StopIs e (given_in files) → IsCheck files (Err e)
+ends_at_given files (stop.BadInput fault) h = absurd (given_ends files (stop.BadInput fault) h)
+ends_at_given files (stop.NotYet f) h = absurd (given_ends files (stop.NotYet f) h)
+ends_at_given files (stop.No why) h = absurd (given_ends files (stop.No why) h)
+ends_at_given files (stop.Missing f) h = inl h
+ends_at_given files (stop.ReadFault f) h = tt
+ends_at_given files (stop.TooLong f) h = inl h
+ends_at_given files stop.NoMemory h = tt
+
+pub ends_at_month : (files : Files) (given : Given) → given_in files ≡ Ok given → (e : Stop) → Ends {X = Problem} (Names given.inputs) given.inputs (Err e) → IsCheck files (Err e)
+ends_at_month files given read (stop.BadInput fault) h = record { given = given; read = read; bad = h }
+ends_at_month files given read (stop.NotYet f) h = absurd h
+ends_at_month files given read (stop.No why) h = absurd h
+ends_at_month files given read (stop.Missing f) h = absurd h
+ends_at_month files given read (stop.ReadFault f) h = tt
+ends_at_month files given read (stop.TooLong f) h = absurd h
+ends_at_month files given read stop.NoMemory h = tt
+
+module _ (files : Files) (given : Given) (read : given_in files ≡ Ok given) (problem : Problem) (names : Names given.inputs problem) where
+  named : NamesProblem files given problem
+  named = record { read = read; names = names }
+
+  pub ends_at_proofs : (e : Stop) → AreProofsOf given.certificate (Err e) → IsCheck files (Err e)
+  ends_at_proofs (stop.BadInput fault) h = absurd h
+  ends_at_proofs (stop.NotYet f) h = record { given = given; problem = problem; before = named; later = h.1; here = h.0 }
+  ends_at_proofs (stop.No refusal.Certificate) h = record { given = given; problem = problem; before = named; no_later = h.no_later; unread = h.read }
+  ends_at_proofs (stop.No refusal.Roster) h = absurd h
+  ends_at_proofs (stop.No (refusal.Judged why)) h = absurd h
+  ends_at_proofs (stop.Missing f) h = absurd h
+  ends_at_proofs (stop.ReadFault f) h = tt
+  ends_at_proofs (stop.TooLong f) h = absurd h
+  ends_at_proofs stop.NoMemory h = tt
+
+  module _ (proofs : List (List Item)) (are : AreProofsOf given.certificate (Ok proofs)) where
+    proved : NamesProofs files problem proofs
+    proved = record { given = given; before = named; no_later = are.no_later; read = are.read }
+
+    pub ends_at_text : (e : Stop) → StopIs e (text_in files Roster) → IsCheck files (Err e)
+    ends_at_text (stop.BadInput fault) h = absurd (text_ends files Roster (stop.BadInput fault) h)
+    ends_at_text (stop.NotYet f) h = absurd (text_ends files Roster (stop.NotYet f) h)
+    ends_at_text (stop.No why) h = absurd (text_ends files Roster (stop.No why) h)
+    ends_at_text (stop.Missing f) h = inr (record { problem = problem; proofs = proofs; before = proved; ends = h })
+    ends_at_text (stop.ReadFault f) h = tt
+    ends_at_text (stop.TooLong f) h = inr (record { problem = problem; proofs = proofs; before = proved; ends = h })
+    ends_at_text stop.NoMemory h = tt
+
+    module _ (text : List ℕ) (there : text_in files Roster ≡ Ok text) where
+      pub ends_at_roster : (e : Stop) → IsRosterOf problem text (Err e) → IsCheck files (Err e)
+      ends_at_roster (stop.BadInput fault) h = absurd h
+      ends_at_roster (stop.NotYet f) h = absurd h
+      ends_at_roster (stop.No refusal.Certificate) h = absurd h
+      ends_at_roster (stop.No refusal.Roster) h = record { problem = problem; proofs = proofs; before = proved; text = text; there = there; unread = h }
+      ends_at_roster (stop.No (refusal.Judged why)) h = absurd h
+      ends_at_roster (stop.Missing f) h = absurd h
+      ends_at_roster (stop.ReadFault f) h = tt
+      ends_at_roster (stop.TooLong f) h = absurd h
+      ends_at_roster stop.NoMemory h = tt
+
+      pub judged : (roster : List (List ℕ)) → IsRosterOf problem text (Ok roster) → (r : Result (List ℕ) Stop) → Judges problem roster proofs r → IsCheck files r
+      judged roster is r h = by r h
+        where
+          all : NamesAll files problem proofs roster
+          all = record { before = proved; text = text; there = there; read = is }
+
+          by : (r : Result (List ℕ) Stop) → Judges problem roster proofs r → IsCheck files r
+          by (Ok scores) h = record { problem = problem; proofs = proofs; roster = roster; named = all; judged = h }
+          by (Err (stop.BadInput fault)) h = absurd h
+          by (Err (stop.NotYet f)) h = absurd h
+          by (Err (stop.No refusal.Certificate)) h = absurd h
+          by (Err (stop.No refusal.Roster)) h = absurd h
+          by (Err (stop.No (refusal.Judged why))) h = record { problem = problem; proofs = proofs; roster = roster; named = all; judged = h }
+          by (Err (stop.Missing f)) h = absurd h
+          by (Err (stop.ReadFault f)) h = tt
+          by (Err (stop.TooLong f)) h = absurd h
+          by (Err stop.NoMemory) h = tt

@@ -1,0 +1,90 @@
+-- Faults of the inputs, as ends of a run.
+use Rattle.std.proofs.Common.{◌≡◌, ◌≢◌, List, Result, Ok, Err, refl}
+use Rattle.rules_file.specs.declared.fault.RuleFault.{RuleFault}
+use Rattle.rules_file.specs.declared.fault.RuleFault.TheVariants as rule
+use Rattle.rules_file.specs.Rules.{rules_file}
+use Rattle.rules_file.specs.Rules as rules
+use Rattle.field_text.specs.declared.file_fault.FileCode.{FileCode}
+use Rattle.field_text.specs.declared.file_fault.FileCode.TheVariants as code
+use Rattle.field_text.specs.declared.file_fault.FileFault.{FileFault}
+use Rattle.field_text.specs.Rows as rows
+use Rattle.bid_language.specs.declared.fault.BidCode.{BidCode}
+use Rattle.bid_language.specs.declared.fault.BidCode.TheVariants as bid
+use Rattle.bid_language.specs.declared.fault.BidFault.{BidFault}
+use Rattle.bid_language.specs.Sheets as sheets
+use Rattle.pbs_engine.specs.declared.stop.InputFault.{InputFault}
+use Rattle.pbs_engine.specs.declared.stop.InputFault.TheVariants as input
+use Rattle.pbs_engine.specs.declared.stop.Stop.{Stop}
+use Rattle.pbs_engine.specs.declared.stop.Stop.TheVariants as stop
+use Rattle.pbs_engine.specs.Reading.{Inputs}
+use Rattle.pbs_engine.specs.Months.{HasFault}
+use Rattle.pbs_engine.specs.Stages.{Ends, rule_stop, file_stop, bid_stop}
+
+pub file_stop_other : (fault : InputFault) (c : FileCode) → c ≢ code.NoMemory → file_stop fault c ≡ stop.BadInput fault
+file_stop_other fault code.NoMemory other = absurd (other refl)
+file_stop_other fault code.Header other = refl
+file_stop_other fault code.Utf8 other = refl
+file_stop_other fault code.Width other = refl
+file_stop_other fault (code.Field column why) other = refl
+file_stop_other fault code.Duplicate other = refl
+file_stop_other fault code.Unknown other = refl
+file_stop_other fault code.Order other = refl
+file_stop_other fault code.OutsideMonth other = refl
+file_stop_other fault code.InnerRest other = refl
+file_stop_other fault (code.Limit number) other = refl
+file_stop_other fault code.Empty other = refl
+
+pub bid_stop_other : (fault : InputFault) (c : BidCode) → c ≢ bid.NoMemory → bid_stop fault c ≡ stop.BadInput fault
+bid_stop_other fault bid.NoMemory other = absurd (other refl)
+bid_stop_other fault bid.Token other = refl
+bid_stop_other fault (bid.Expected w) other = refl
+bid_stop_other fault bid.Number other = refl
+bid_stop_other fault bid.Date other = refl
+bid_stop_other fault bid.UnknownMember other = refl
+bid_stop_other fault bid.UnknownPairing other = refl
+bid_stop_other fault bid.Weight other = refl
+bid_stop_other fault bid.TooMany other = refl
+bid_stop_other fault bid.MemberTwice other = refl
+
+pub rules_end : {X : Type 0} (P : X → Type 0) (t : Inputs) (e : RuleFault) → rules.Fails e (rules_file t.rules) → Ends P t (Err (rule_stop e))
+rules_end P t rule.NoMemory h = tt
+rules_end P t rule.NotToml h = h
+rules_end P t (rule.MissingKey key) h = h
+rules_end P t (rule.UnknownKey key) h = h
+rules_end P t (rule.Range key) h = h
+
+pub file_end : {X Y : Type 0} (P : X → Type 0) (t : Inputs) (fault : InputFault) (e : FileFault) (read : Result Y FileFault) → (read ≡ Err e → HasFault t fault) → (c : FileCode) → rows.Fails c e read → Ends P t (Err (file_stop fault c))
+file_end P t fault e read has code.NoMemory h = tt
+file_end P t fault e read has code.Header h = has h
+file_end P t fault e read has code.Utf8 h = has h
+file_end P t fault e read has code.Width h = has h
+file_end P t fault e read has (code.Field column why) h = has h
+file_end P t fault e read has code.Duplicate h = has h
+file_end P t fault e read has code.Unknown h = has h
+file_end P t fault e read has code.Order h = has h
+file_end P t fault e read has code.OutsideMonth h = has h
+file_end P t fault e read has code.InnerRest h = has h
+file_end P t fault e read has (code.Limit number) h = has h
+file_end P t fault e read has code.Empty h = has h
+
+pub bid_end : {X Y : Type 0} (P : X → Type 0) (t : Inputs) (fault : InputFault) (e : BidFault) (read : Result Y BidFault) → (read ≡ Err e → HasFault t fault) → (c : BidCode) → sheets.FailsBy c e read → Ends P t (Err (bid_stop fault c))
+bid_end P t fault e read has bid.NoMemory h = tt
+bid_end P t fault e read has bid.Token h = has h
+bid_end P t fault e read has (bid.Expected w) h = has h
+bid_end P t fault e read has bid.Number h = has h
+bid_end P t fault e read has bid.Date h = has h
+bid_end P t fault e read has bid.UnknownMember h = has h
+bid_end P t fault e read has bid.UnknownPairing h = has h
+bid_end P t fault e read has bid.Weight h = has h
+bid_end P t fault e read has bid.TooMany h = has h
+bid_end P t fault e read has bid.MemberTwice h = has h
+
+-- an end of one part is an end of the whole
+pub ends_whole : {X Y : Type 0} (P : X → Type 0) (Q : Y → Type 0) (t : Inputs) (e : Stop) → Ends P t (Err e) → Ends Q t (Err e)
+ends_whole P Q t (stop.BadInput fault) h = h
+ends_whole P Q t (stop.NotYet f) h = h
+ends_whole P Q t (stop.No why) h = h
+ends_whole P Q t (stop.Missing f) h = h
+ends_whole P Q t (stop.ReadFault f) h = h
+ends_whole P Q t (stop.TooLong f) h = h
+ends_whole P Q t stop.NoMemory h = h

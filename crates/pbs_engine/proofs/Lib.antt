@@ -1,0 +1,10 @@
+pub mod OneWord
+pub mod PlainNumberLaws
+pub mod CertificateLaws
+pub mod Several
+pub mod RosterLaws
+pub mod Saying
+pub mod Texts
+pub mod CheckLaws
+pub mod Ends
+pub mod Standing

@@ -1,0 +1,22 @@
+use Rattle.std.proofs.Common.{◌≡◌, ℕ, List, Result, refl, subst, Err}
+use Rattle.field_text.specs.Rows.{Fails}
+use Rattle.field_text.specs.declared.file_fault.FileFault.{FileFault}
+use Rattle.duty_calendar.specs.declared.pairing.Pairing.{Pairing}
+use Rattle.pairing_files.specs.Files.{pairings_of}
+use Rattle.pbs_engine.specs.declared.stop.InputFault.TheVariants as input
+use Rattle.pbs_engine.specs.declared.stop.Stop.{Stop}
+use Rattle.pbs_engine.specs.Months.{GivesPairings}
+use Rattle.pbs_engine.specs.Reading.{view_texts}
+use Rattle.pbs_engine.specs.Stages.{Ends}
+use Rattle.pbs_engine.proofs.Ends.{file_end}
+use Rattle.pbs_engine.proofs.month.pairings_of.Goals as goal
+
+pub returns-in-Err-clause-pairings : goal.returns-in-Err-clause-pairings
+returns-in-Err-clause-pairings c =
+    let t = view_texts c.args.texts.now in
+    let same : pairings_of c.args.rules.now.horizon c.deref.result.now c.deref-2.result.now c.deref-3.result.now ≡ pairings_of c.args.rules.now.horizon t.pairings t.duties t.legs =
+    rw (c.deref.ensures.value, c.deref-2.ensures.value, c.deref-3.ensures.value) refl in
+    rw c.pairing_stop.ensures.stop
+    (file_end (GivesPairings t c.args.rules.now) t (input.Pairings c.in-Err.fault) c.in-Err.fault (pairings_of c.args.rules.now.horizon t.pairings t.duties t.legs)
+    (λ h. record { rules = c.args.rules.now; before = c.requires.rules; here = h }) c.in-Err.fault.code
+    (subst (λ (r : Result (List Pairing) FileFault). Fails c.in-Err.fault.code c.in-Err.fault r) same c.in-Err.ensures.value))

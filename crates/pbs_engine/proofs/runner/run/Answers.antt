@@ -1,0 +1,6 @@
+use Rattle.pbs_engine.proofs.Standing.{yes_stands}
+use Rattle.pbs_engine.proofs.runner.run.Goals as goal
+
+pub returns-clause-stands : goal.returns-clause-stands
+returns-clause-stands g c = λ files told done.
+    yes_stands files c.answer-told.result (c.answer-told.ensures.answered.told files told) _ _ _ _ c.say.result c.say.ensures.said done

@@ -1,0 +1,15 @@
+pub mod FileNames
+pub mod Statuses
+pub mod Words
+pub mod PlainNumbers
+pub mod CertificateText
+pub mod CertificateReading
+pub mod RosterText
+pub mod RosterReading
+pub mod Reading
+pub mod Months
+pub mod Checks
+pub mod Stages
+pub mod Answers
+pub mod Runs
+pub mod Headline

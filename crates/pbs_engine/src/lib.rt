@@ -1,0 +1,19 @@
+//! What the program does: words and files in, one answer and its text out.
+#![tactic(auto)]
+
+mod answer;
+mod certificate;
+mod check;
+mod command;
+mod file;
+mod month;
+mod reading;
+mod roster;
+mod runner;
+mod status;
+mod stop;
+mod text;
+mod text_fault;
+
+pub use runner::run;
+pub use status::Status;
