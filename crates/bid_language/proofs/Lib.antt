@@ -6,3 +6,10 @@ pub mod ReadSteps
 pub mod OnlyGives
 pub mod ValidBids
 pub mod MonthDays
+pub mod BidWords
+pub mod Rereading
+pub mod TextAgain
+pub mod PlainWords
+pub mod DaysAgain
+pub mod BidsAgain
+pub mod Written

@@ -6,3 +6,4 @@ pub mod Days
 pub mod Grammar
 pub mod Lines
 pub mod Sheets
+pub mod Spelling

@@ -7,11 +7,15 @@ mod fault;
 mod filter;
 mod keywords;
 mod lines;
+mod printing;
 mod reading;
 mod sheet;
+mod text;
 mod values;
 mod wish;
 mod words;
+mod writing;
 
 pub use fault::{BidCode, BidFault, Word};
 pub use reading::read_bids;
+pub use text::{print_bids, put_bid};
