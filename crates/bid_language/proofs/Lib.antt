@@ -2,6 +2,7 @@ pub mod FieldBounds
 pub mod WordSteps
 pub mod AtomSteps
 pub mod LineSteps
+pub mod RealFaults
 pub mod ReadSteps
 pub mod OnlyGives
 pub mod ValidBids

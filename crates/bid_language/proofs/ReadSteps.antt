@@ -1,5 +1,5 @@
 -- What a line gives, from what its parts give.
-use Rattle.std.proofs.Common.{◌≡◌, ℕ, ◌+◌, List, [], ◌∷◌, length, Result, Ok, Err, refl, sym, ◌∙◌, arith}
+use Rattle.std.proofs.Common.{◌≡◌, ◌≢◌, ℕ, ◌+◌, List, [], ◌∷◌, length, Result, Ok, Err, refl, sym, ◌∙◌, arith}
 use Rattle.field_text.specs.declared.token.Token.{Token}
 use Rattle.field_text.specs.declared.token.TokenFault.{TokenFault}
 use Rattle.field_text.specs.declared.token.TokenFault.TheVariants as token
@@ -14,19 +14,20 @@ use Rattle.bid_language.specs.declared.sheet.Entry.{Entry}
 use Rattle.bid_language.specs.Words.{Rest, rest_of, Reads}
 use Rattle.bid_language.specs.Lines.{Read, before_comment, entry_of, line_of, lines_from, lines_of, lines_with, with_entry}
 use Rattle.bid_language.specs.Sheets.{FailsBy, fault_at, token_fault_at}
+use Rattle.bid_language.proofs.RealFaults.{faults-entry_of}
 
--- a fault that is the right one, or want of memory
-pub fails-at : {Y : Type 0} (line column : ℕ) (c : BidCode) (read : Result Y BidFault) → read ≡ Err (record { line = line; column = column; code = c }) → FailsBy c (record { line = line; column = column; code = c }) read
-fails-at line column code.NoMemory read h = tt
-fails-at line column code.Token read h = h
-fails-at line column (code.Expected w) read h = h
-fails-at line column code.Number read h = h
-fails-at line column code.Date read h = h
-fails-at line column code.UnknownMember read h = h
-fails-at line column code.UnknownPairing read h = h
-fails-at line column code.Weight read h = h
-fails-at line column code.TooMany read h = h
-fails-at line column code.MemberTwice read h = h
+-- a fault of a line, with its places
+pub fails-at : {Y : Type 0} (line column : ℕ) (c : BidCode) (read : Result Y BidFault) → c ≢ code.NoMemory → read ≡ Err (record { line = line; column = column; code = c }) → FailsBy c (record { line = line; column = column; code = c }) read
+fails-at line column code.NoMemory read real h = absurd (real refl)
+fails-at line column code.Token read real h = h
+fails-at line column (code.Expected w) read real h = h
+fails-at line column code.Number read real h = h
+fails-at line column code.Date read real h = h
+fails-at line column code.UnknownMember read real h = h
+fails-at line column code.UnknownPairing read real h = h
+fails-at line column code.Weight read real h = h
+fails-at line column code.TooMany read real h = h
+fails-at line column code.MemberTwice read real h = h
 
 -- the line says what its tokens say
 pub line-ok : (base : Base) (n : ℕ) (read : Read) (text line : List ℕ) (tokens : List Token) (e : Entry) (before after : Rest)
@@ -38,15 +39,15 @@ pub line-stop : (base : Base) (n : ℕ) (read : Read) (text line : List ℕ) (to
     → line ≡ before_comment text → read_tokens line ≡ Ok tokens → before ≡ rest_of line tokens → Reads (Err s) (entry_of base read) before after → fault ≡ fault_at n s
     → FailsBy fault.code fault (line_of base n read text)
 unfolding line_of
-line-stop base n read text line tokens stop.NoMemory fault before after b t w h e = rw e tt
+line-stop base n read text line tokens stop.NoMemory fault before after b t w h e = rw e (refl, refl)
 line-stop base n read text line tokens (stop.Fault f) fault before after b t w h e =
-    rw (e, ← b, t, ← w, h) (fails-at n f.column f.code _ refl)
+    rw (e, ← b, t, ← w, h) (fails-at n f.column f.code _ (faults-entry_of base read before f h) refl)
 
 pub line-token : (base : Base) (n : ℕ) (read : Read) (text line : List ℕ) (fault : BidFault) (t : TokenFault)
     → line ≡ before_comment text → fault ≡ token_fault_at n t → TokensGive (Err t) (read_tokens line)
     → FailsBy fault.code fault (line_of base n read text)
 unfolding line_of
-line-token base n read text line fault token.NoMemory b e h = rw e tt
+line-token base n read text line fault token.NoMemory b e h = rw e (refl, refl)
 line-token base n read text line fault (token.Byte column) b e h = rw (e, ← b, h) refl
 
 -- the lines of a text, whose first line and rest are these
@@ -69,7 +70,7 @@ lines-fault base n read text line rest fault all h i f =
     along fault.code refl all (λ e. sym i ∙ rw (h, e) refl) f
   where
     along : (c : BidCode) → c ≡ fault.code → (r : Result Read BidFault) → (line_of base n read line ≡ Err fault → r ≡ Err fault) → FailsBy c fault (line_of base n read line) → FailsBy c fault r
-    along code.NoMemory q r g h = tt
+    along code.NoMemory q r g h = h
     along code.Token q r g h = g h
     along (code.Expected w) q r g h = g h
     along code.Number q r g h = g h
