@@ -14,3 +14,4 @@ pub mod PlainWords
 pub mod DaysAgain
 pub mod BidsAgain
 pub mod Written
+pub mod BidTextAgain

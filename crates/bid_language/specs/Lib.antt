@@ -7,3 +7,4 @@ pub mod Grammar
 pub mod Lines
 pub mod Sheets
 pub mod Spelling
+pub mod Rereads

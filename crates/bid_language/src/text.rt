@@ -1,11 +1,12 @@
 //! Writing the bids of a problem.
-ghost use Rattle.std.specs.Prelude.{◌≡◌, ◌<◌, ◌≤◌, ◌++◌, ◌∷◌, [], true, length, All, IfOk, OnOk, OnErr, Ok};
+ghost use Rattle.std.specs.Prelude.{◌≡◌, ◌<◌, ◌≤◌, ◌++◌, ◌∷◌, [], true, length, All, IfOk, OnOk, OnErr, Ok, Some, slice_get};
 ghost use Rattle.std.specs.List.{list_all};
 ghost use Rattle.duty_calendar.specs.Forms.{is_name};
 ghost use Rattle.field_text.specs.Spelling.{HasPartly};
 ghost use Rattle.roster_model.specs.Scores.{bids_of};
 ghost use Rattle.roster_model.specs.Valid.{IsBid, is_wish};
 ghost use Rattle.bid_language.specs.Lines.{bids_in};
+ghost use Rattle.bid_language.specs.Rereads.{IsBidText};
 ghost use Rattle.bid_language.specs.Spelling.{bid_text, text_of, bid_lines, member_text, member_lines, all_lines, bids_text, is_spelt_wish, is_spelt_list, are_spelt};
 
 use crate::printing::put_text;
@@ -19,6 +20,7 @@ use std::alloc::Global;
 fn bid_at(problem: &Problem, bid: BidRef) -> &Bid
     requires member { bid.member < length problem.now.base.members }
     requires bid { bid.bid < length (bids_of problem.now bid.member) }
+    ensures there { slice_get (bids_of problem.now bid.member) bid.bid ≡ Some result.now }
     ensures text { bid_text problem.now.base result.now ≡ text_of problem.now bid }
     ensures form { is_wish problem.now.base.rules.horizon (length problem.now.base.pairings) result.now.wish ≡ true }
 {
@@ -28,11 +30,13 @@ fn bid_at(problem: &Problem, bid: BidRef) -> &Bid
 }
 
 /// Appends a bid as its weight and its wish, or a part of that from its begin where memory ends.
+/// `read_bids` reads a line of this text as the bid.
 pub fn put_bid(out: &mut List<u8>, problem: &Problem, bid: BidRef) -> Result<(), Memory>
     requires member { bid.member < length problem.now.base.members }
     requires bid { bid.bid < length (bids_of problem.now bid.member) }
     ensures whole { OnOk result (out.new ≡ out.old ++ text_of problem.now bid) }
     ensures partly { OnErr result (HasPartly out.old (text_of problem.now bid) out.new) }
+    ensures again { OnOk result (IsBidText problem.now bid (text_of problem.now bid)) }
 {
     put_text(out, &problem.base, bid_at(problem, bid))
 }
