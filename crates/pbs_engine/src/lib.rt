@@ -12,6 +12,8 @@ mod roster;
 mod runner;
 mod status;
 mod stop;
+#[cfg(test)]
+mod tests;
 mod text;
 mod text_fault;
 

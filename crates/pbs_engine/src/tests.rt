@@ -1,0 +1,281 @@
+//! Runs over files in memory.
+
+mod months;
+
+use crate::{Status, run};
+use duty_calendar::List;
+use months::*;
+use shelf::{MemoryShelf, MemorySink};
+use std::alloc::Global;
+use std::process::Abort;
+use std::test::Fail;
+
+/// What a run printed, and how it ended.
+#[derive(Drop)]
+struct Outcome {
+    status: Status,
+    text: String,
+}
+
+/// Puts files into a shelf, each in place of one of its name.
+fn place_all(
+    rt: &impl Abort,
+    alloc: Global,
+    shelf: &mut MemoryShelf,
+    files: &[(&str, &[u8])],
+) -> Result<(), Fail> {
+    for (name, bytes) in files {
+        assert!(rt; !name.is_empty() && name.len() <= 32);
+        shelf.place(alloc, name, bytes)?;
+    }
+    Ok(())
+}
+
+/// Words as a run takes them.
+fn words_of(alloc: Global, words: &[&str]) -> Result<Vec<String>, Fail> {
+    let mut list = Vec::new(alloc);
+    for word in words {
+        list.push(String::from_str(alloc, word)?)?;
+    }
+    Ok(list)
+}
+
+/// Runs these words over a month's files and further ones in their place. The calls of the shelf and of the sink with
+/// the numbers that are given beside them fail.
+fn outcome_of(
+    rt: &impl Abort,
+    alloc: Global,
+    words: &[&str],
+    month: &[(&str, &[u8])],
+    changed: &[(&str, &[u8])],
+    failing: (&[u64], &[u64]),
+) -> Result<Outcome, Fail> {
+    let mut shelf = MemoryShelf::new(alloc, List::from_vec(failing.0.to_vec(alloc)?));
+    place_all(rt, alloc, &mut shelf, month)?;
+    place_all(rt, alloc, &mut shelf, changed)?;
+    let words = words_of(alloc, words)?;
+    let mut out = MemorySink::new(alloc, List::from_vec(failing.1.to_vec(alloc)?));
+    let status = run(alloc, &words, &mut shelf, &mut out);
+    Ok(Outcome {
+        status,
+        text: String::from_utf8(out.bytes().to_vec(alloc)?)?,
+    })
+}
+
+/// Says that a run ended so and printed this.
+fn assert_ends(rt: &impl Abort, outcome: &Outcome, status: Status, text: &str) {
+    assert_eq!(rt; outcome.text.as_str(), text);
+    assert_eq!(rt; outcome.status, status, "{text}");
+}
+
+/// Says what `check` prints of the smallest month with these files in place of its own.
+fn assert_checks(
+    rt: &impl Abort,
+    alloc: Global,
+    changed: &[(&str, &[u8])],
+    status: Status,
+    text: &str,
+) -> Result<(), Fail> {
+    let outcome = outcome_of(rt, alloc, &["check"], &SMALLEST, changed, (&[], &[]))?;
+    assert_ends(rt, &outcome, status, text);
+    Ok(())
+}
+
+/// Says what `check` prints of the smallest month with one row's file in place of its own, row by row.
+fn assert_rows(rt: &impl Abort, alloc: Global, rows: &[Row], status: Status) -> Result<(), Fail> {
+    for (name, bytes, text) in rows {
+        assert_checks(rt, alloc, &[(*name, *bytes)], status, text)?;
+    }
+    Ok(())
+}
+
+#[test]
+fn a_month_is_checked(rt: HostRuntime) -> Result<(), Fail> {
+    let alloc = rt.alloc();
+    assert_checks(&rt, alloc, &[], Status::Done, "yes\nvector 10\n")?;
+    assert_rows(&rt, alloc, &ACCEPTED, Status::Done)?;
+    assert_rows(&rt, alloc, &REFUSED, Status::No)?;
+    assert_rows(&rt, alloc, &ILLEGAL, Status::No)?;
+    assert_rows(&rt, alloc, &LATER, Status::NotYet)
+}
+
+#[test]
+fn the_first_fault_is_named(rt: HostRuntime) -> Result<(), Fail> {
+    let alloc = rt.alloc();
+    assert_rows(&rt, alloc, &BAD_BIDS, Status::BadInput)?;
+    assert_rows(&rt, alloc, &BAD_FILES, Status::BadInput)?;
+    for (changed, text) in [
+        (NO_DUTY.as_slice(), "bad pairings.csv 2 11\n"),
+        (TWO_FAULTS.as_slice(), "bad crew.csv 2 4 2 3\n"),
+        (UNFIT_CERTIFICATE.as_slice(), "bad fixed.csv 1 1\n"),
+    ] {
+        assert_checks(&rt, alloc, changed, Status::BadInput, text)?;
+    }
+    Ok(())
+}
+
+#[test]
+fn lines_and_covers_are_judged(rt: HostRuntime) -> Result<(), Fail> {
+    for (changed, status, text) in [
+        (SECOND_DUTY.as_slice(), Status::Done, "yes\nvector 10\n"),
+        (SENIORITY.as_slice(), Status::Done, "yes\nvector 10 0\n"),
+        (ROWS_TURNED.as_slice(), Status::No, "no roster\n"),
+        (JUNIOR_FLIES.as_slice(), Status::No, "no 4 1 2 5\n"),
+        (BOTH_FLY.as_slice(), Status::No, "no 2 1 2\n"),
+        (SIXTY_HOURS.as_slice(), Status::Done, "yes\nvector 0\n"),
+        (
+            SIXTY_HOURS_AND_A_MINUTE.as_slice(),
+            Status::No,
+            "no 1 1 5 536477\n",
+        ),
+        (HUNDRED_HOURS.as_slice(), Status::Done, "yes\nvector 10\n"),
+        (
+            HUNDRED_HOURS_AND_A_MINUTE.as_slice(),
+            Status::No,
+            "no 1 1 4 498881\n",
+        ),
+        (FIRST_WINDOW.as_slice(), Status::No, "no 1 1 4 485281\n"),
+        (INTERLEAVED.as_slice(), Status::No, "no 1 1 1 541920\n"),
+    ] {
+        assert_checks(&rt, rt.alloc(), changed, status, text)?;
+    }
+    Ok(())
+}
+
+/// Appends flights of five hours on these days of a month.
+fn put_flights(
+    alloc: Global,
+    text: &mut String,
+    month: &str,
+    first: u32,
+    last: u32,
+) -> Result<(), Fail> {
+    for day in first..=last {
+        let row = format!(in alloc;
+            "M1,flight,{month}-{day:02}T08:00Z,{month}-{day:02}T14:00Z,{month}-{day:02}T14:30Z,{month}-{day:02}T08:30Z/{month}-{day:02}T13:30Z,0:00\n"
+        )?;
+        text.push_str(&row)?;
+    }
+    Ok(())
+}
+
+/// A history that flies 1,000 hours from June 10 of last year on.
+fn thousand_hours(alloc: Global) -> Result<String, Fail> {
+    let mut text = String::from_str(alloc, "member,kind,report,parked,release,legs,credit\n")?;
+    for (month, first, last) in [
+        ("2025-06", 10, 10),
+        ("2025-06", 21, 30),
+        ("2025-07", 1, 31),
+        ("2025-08", 1, 31),
+        ("2025-09", 1, 30),
+        ("2025-10", 1, 31),
+        ("2025-11", 1, 30),
+        ("2025-12", 1, 31),
+        ("2026-01", 1, 5),
+    ] {
+        put_flights(alloc, &mut text, month, first, last)?;
+    }
+    Ok(text)
+}
+
+#[test]
+fn a_year_is_365_days(rt: HostRuntime) -> Result<(), Fail> {
+    let alloc = rt.alloc();
+    let history = thousand_hours(alloc)?;
+    let changed = [("history.csv", history.as_bytes())];
+    assert_checks(&rt, alloc, &changed, Status::Done, "yes\nvector 10\n")?;
+    let outcome = outcome_of(
+        &rt,
+        alloc,
+        &["check"],
+        &SMALLEST,
+        &[changed[0], NINTH[0], NINTH[1], NINTH[2]],
+        (&[], &[]),
+    )?;
+    assert_ends(&rt, &outcome, Status::No, "no 1 1 7 373\n");
+    Ok(())
+}
+
+/// Says what `check` prints of the month of wishes where the first member has this wish, and the roster says that
+/// its line scores so.
+fn assert_wish(
+    rt: &impl Abort,
+    alloc: Global,
+    (wish, first, second, _): &Wish,
+    score: u32,
+    text: &str,
+) -> Result<(), Fail> {
+    let bids = format!(in alloc; "member M1\n10 {wish}\n")?;
+    let roster = format!(in alloc;
+        "member,pairings,credit,score\nM1,{first},{score}\nM2,{second},0\n"
+    )?;
+    let changed = [
+        ("bids.txt", bids.as_bytes()),
+        ("roster.csv", roster.as_bytes()),
+    ];
+    let outcome = outcome_of(rt, alloc, &["check"], &WISHES, &changed, (&[], &[]))?;
+    assert_ends(rt, &outcome, Status::No, text);
+    Ok(())
+}
+
+#[test]
+fn wishes_are_granted(rt: HostRuntime) -> Result<(), Fail> {
+    for wish in &GRANTS {
+        let (due, other) = if wish.3 { (10, 0) } else { (0, 10) };
+        assert_wish(&rt, rt.alloc(), wish, due, "no 5 1\n")?;
+        assert_wish(&rt, rt.alloc(), wish, other, "no roster\n")?;
+    }
+    Ok(())
+}
+
+#[test]
+fn files_are_read_in_order(rt: HostRuntime) -> Result<(), Fail> {
+    let alloc = rt.alloc();
+    for (i, (name, _)) in SMALLEST.iter().enumerate() {
+        let missing = format!(in alloc; "missing {name}\n")?;
+        let failed = format!(in alloc; "read fault {name}\n")?;
+        let outcome = outcome_of(
+            &rt,
+            alloc,
+            &["check"],
+            &SMALLEST[..i],
+            &SMALLEST[i + 1..],
+            (&[], &[]),
+        )?;
+        assert_ends(&rt, &outcome, Status::Missing, &missing);
+        let outcome = outcome_of(
+            &rt,
+            alloc,
+            &["check"],
+            &SMALLEST,
+            &[],
+            (&[i as u64 + 1], &[]),
+        )?;
+        assert_ends(&rt, &outcome, Status::ReadFault, &failed);
+    }
+    Ok(())
+}
+
+#[test]
+fn a_long_file_is_named(rt: HostRuntime) -> Result<(), Fail> {
+    let bids = vec![in rt.alloc(); b'#'; 67_108_865]?;
+    let changed = [("bids.txt", bids.as_slice())];
+    assert_checks(
+        &rt,
+        rt.alloc(),
+        &changed,
+        Status::TooLong,
+        "too long bids.txt\n",
+    )
+}
+
+#[test]
+fn words_are_a_command(rt: HostRuntime) -> Result<(), Fail> {
+    for words in &NO_COMMANDS {
+        let outcome = outcome_of(&rt, rt.alloc(), words, &SMALLEST, &[], (&[], &[]))?;
+        assert_ends(&rt, &outcome, Status::Usage, USAGE);
+    }
+    let outcome = outcome_of(&rt, rt.alloc(), &["check"], &SMALLEST, &[], (&[], &[1]))?;
+    assert_ends(&rt, &outcome, Status::WriteFault, "");
+    Ok(())
+}

@@ -1,0 +1,702 @@
+//! The months of the tests: whole files as a shelf holds them.
+
+/// A file in place of the smallest month's own, and what `check` then prints.
+pub type Row = (&'static str, &'static [u8], &'static str);
+
+/// One member, who bids for the one pairing and flies it, in the order in which a run reads.
+pub const SMALLEST: [(&str, &[u8]); 10] = [
+    (
+        "rules.toml",
+        b"base = \"DUB\"\nseat = \"FO\"\nyear = 2026\nmonth = 6\noffset = 0\ndays_off = 0\n",
+    ),
+    ("pairings.csv", b"pairing,need,credit\nP1,1,5:00\n"),
+    (
+        "duties.csv",
+        b"pairing,no,report,parked,release,layover\nP1,1,2026-06-10T08:00Z,2026-06-10T14:00Z,2026-06-10T14:30Z,\n",
+    ),
+    (
+        "legs.csv",
+        b"pairing,no,from,to,out,in\nP1,1,DUB,LHR,2026-06-10T09:00Z,2026-06-10T13:00Z\n",
+    ),
+    ("crew.csv", b"member,low,high\nM1,0:00,90:00\n"),
+    (
+        "history.csv",
+        b"member,kind,report,parked,release,legs,credit\n",
+    ),
+    (
+        "fixed.csv",
+        b"member,kind,report,parked,release,legs,credit\n",
+    ),
+    ("bids.txt", b"member M1\n10 fly P1\n"),
+    (
+        "certificate.txt",
+        b"pbs-certificate 1\naward 1 0\nproof 3\nsplit 1 1\nfixed 1\ncount 1\nend\n",
+    ),
+    (
+        "roster.csv",
+        b"member,pairings,credit,score\nM1,P1,5:00,10\n",
+    ),
+];
+
+/// Other spellings of the smallest month, and events that leave just the rest that is due.
+pub const ACCEPTED: [Row; 5] = [
+    (
+        "rules.toml",
+        b"# June\nmonth = 6\nbase = \"DUB\"\ndays_off = 0\nseat = \"FO\"\noffset = 0\nyear = 2026\n",
+        "yes\nvector 10\n",
+    ),
+    (
+        "pairings.csv",
+        b"pairing,need,credit\n\"P1\",1,5:00\n",
+        "yes\nvector 10\n",
+    ),
+    (
+        "bids.txt",
+        b"# June\r\n\nmember\x09M1 # the only one\r\n10   fly P1",
+        "yes\nvector 10\n",
+    ),
+    (
+        "fixed.csv",
+        b"member,kind,report,parked,release,legs,credit\nM1,ground,2026-06-09T18:00Z,2026-06-09T22:00Z,2026-06-09T22:00Z,,0:00\n",
+        "yes\nvector 10\n",
+    ),
+    (
+        "fixed.csv",
+        b"member,kind,report,parked,release,legs,credit\nM1,ground,2026-06-02T08:00Z,2026-06-03T08:00Z,2026-06-03T08:00Z,,0:00\nM1,ground,2026-06-04T14:00Z,2026-06-09T22:00Z,2026-06-09T22:00Z,,0:00\n",
+        "yes\nvector 10\n",
+    ),
+];
+
+/// Certificates that prove nothing and texts that are none.
+pub const REFUSED: [Row; 34] = [
+    (
+        "certificate.txt",
+        b"pbs-certificate 1\naward 1 0\nproof 3\nsplit 1 1\ncount 1\nfixed 1\nend\n",
+        "no 4 1 2 3\n",
+    ),
+    (
+        "certificate.txt",
+        b"pbs-certificate 1\naward 1 0\nproof 1\nsplit 1 2\nend\n",
+        "no 4 1 1 1\n",
+    ),
+    (
+        "certificate.txt",
+        b"pbs-certificate 1\naward 1 0\nproof 1\nsplit 2 1\nend\n",
+        "no 4 1 1 1\n",
+    ),
+    (
+        "certificate.txt",
+        b"pbs-certificate 1\naward 1 0\nproof 2\nsplit 1 1\nsplit 1 1\nend\n",
+        "no 4 1 2 2\n",
+    ),
+    (
+        "certificate.txt",
+        b"pbs-certificate 1\naward 1 0\nproof 1\nfixed 1\nend\n",
+        "no 4 1 1 4 1\n",
+    ),
+    (
+        "certificate.txt",
+        b"pbs-certificate 1\naward 1 0\nproof 2\nsplit 1 1\nfixed 1\nend\n",
+        "no 5 1\n",
+    ),
+    (
+        "certificate.txt",
+        b"pbs-certificate 1\naward 1 0\nproof 4\nsplit 1 1\nfixed 1\ncount 1\ncount 1\nend\n",
+        "no 5 1\n",
+    ),
+    (
+        "certificate.txt",
+        b"pbs-certificate 1\naward 1 0\nproof 0\nend\n",
+        "no 5 1\n",
+    ),
+    (
+        "certificate.txt",
+        b"pbs-certificate 1\naward 0 0\nend\n",
+        "no 3 0\n",
+    ),
+    (
+        "certificate.txt",
+        b"pbs-certificate 1\naward 2 0\nproof 3\nsplit 1 1\nfixed 1\ncount 1\nproof 3\nsplit 1 1\nfixed 1\ncount 1\nend\n",
+        "no 3 2\n",
+    ),
+    ("certificate.txt", b"", "no certificate\n"),
+    (
+        "certificate.txt",
+        b"pbs-certificate 1\naward 1 0\nproof 3\nsplit 1 1\nfixed 1\ncount 1\nend",
+        "no certificate\n",
+    ),
+    (
+        "certificate.txt",
+        b"pbs-certificate 1\naward 1 0\nproof 3\nsplit 1 1\nfixed 1\ncount 1\n",
+        "no certificate\n",
+    ),
+    (
+        "certificate.txt",
+        b"pbs-certificate 1\naward 1 0\nproof 3\nsplit 1 1\nfixed 1\ncount 1\nend\nend\n",
+        "no certificate\n",
+    ),
+    (
+        "certificate.txt",
+        b"pbs-certificate 1\naward 1 0\nproof 1\nsplit 01 1\nend\n",
+        "no certificate\n",
+    ),
+    (
+        "certificate.txt",
+        b"pbs-certificate 1\naward 1 0\nproof 1\nsplit 0 1\nend\n",
+        "no certificate\n",
+    ),
+    (
+        "certificate.txt",
+        b"pbs-certificate 1\naward 1 0\nproof 1\nsplit 1  1\nend\n",
+        "no certificate\n",
+    ),
+    (
+        "certificate.txt",
+        b"pbs-certificate 1\naward 1 0\nproof 1\nsplit 1 10000\nend\n",
+        "no certificate\n",
+    ),
+    (
+        "certificate.txt",
+        b"pbs-certificate 1\r\naward 1 0\r\nproof 3\r\nsplit 1 1\r\nfixed 1\r\ncount 1\r\nend\r\n",
+        "no certificate\n",
+    ),
+    (
+        "certificate.txt",
+        b"pbs-certificate 2\naward 1 0\nproof 3\nsplit 1 1\nfixed 1\ncount 1\nend\n",
+        "no certificate\n",
+    ),
+    (
+        "certificate.txt",
+        b"pbs-certificate 1\naward 1 0\nproof 2\nsplit 1 1\nfixed 1\ncount 1\nend\n",
+        "no certificate\n",
+    ),
+    (
+        "certificate.txt",
+        b"pbs-certificate 1\naward 1 0\nproof 4294967296\nsplit 1 1\nfixed 1\ncount 1\nend\n",
+        "no certificate\n",
+    ),
+    (
+        "certificate.txt",
+        b"pbs-certificate 1\naward 201 0\nproof 3\nsplit 1 1\nfixed 1\ncount 1\nend\n",
+        "no certificate\n",
+    ),
+    (
+        "roster.csv",
+        b"member,pairings,credit,score\nM1,P1,5:01,10\n",
+        "no roster\n",
+    ),
+    (
+        "roster.csv",
+        b"member,pairings,credit,score\nM1,P1,5:00,11\n",
+        "no roster\n",
+    ),
+    (
+        "roster.csv",
+        b"member,pairings,credit,score\nM1,P2,5:00,10\n",
+        "no roster\n",
+    ),
+    (
+        "roster.csv",
+        b"member,pairings,credit,score\nM1,P1 ,5:00,10\n",
+        "no roster\n",
+    ),
+    (
+        "roster.csv",
+        b"member,pairings,credit,score\nM1,P1 P1,10:00,10\n",
+        "no roster\n",
+    ),
+    (
+        "roster.csv",
+        b"member,pairings,credit,score\nM2,P1,5:00,10\n",
+        "no roster\n",
+    ),
+    (
+        "roster.csv",
+        b"member,pairings,credit,score\nM1,P1,5:00,10",
+        "no roster\n",
+    ),
+    (
+        "roster.csv",
+        b"member,pairings,credit,score\n",
+        "no roster\n",
+    ),
+    (
+        "roster.csv",
+        b"member,pairings,credit,score\nM1,P1,5:00,10\nM1,P1,5:00,10\n",
+        "no roster\n",
+    ),
+    ("roster.csv", b"M1,P1,5:00,10\n", "no roster\n"),
+    (
+        "roster.csv",
+        b"member,pairings,credit,score\nM1,,0:00,0\n",
+        "no 2 1 0\n",
+    ),
+];
+
+/// Lines with too little rest, no free block of 30 hours, overlapping spans, too little credit and too few days off.
+pub const ILLEGAL: [Row; 5] = [
+    (
+        "fixed.csv",
+        b"member,kind,report,parked,release,legs,credit\nM1,ground,2026-06-09T18:00Z,2026-06-09T22:01Z,2026-06-09T22:01Z,,0:00\n",
+        "no 1 1 2 539040\n",
+    ),
+    (
+        "fixed.csv",
+        b"member,kind,report,parked,release,legs,credit\nM1,ground,2026-06-02T08:00Z,2026-06-03T07:59Z,2026-06-03T07:59Z,,0:00\nM1,ground,2026-06-04T13:59Z,2026-06-09T22:00Z,2026-06-09T22:00Z,,0:00\n",
+        "no 1 1 3 539040\n",
+    ),
+    (
+        "fixed.csv",
+        b"member,kind,report,parked,release,legs,credit\nM1,ground,2026-06-10T14:29Z,2026-06-10T20:00Z,2026-06-10T20:00Z,,0:00\n",
+        "no 1 1 1 539429\n",
+    ),
+    (
+        "crew.csv",
+        b"member,low,high\nM1,5:01,90:00\n",
+        "no 1 1 8 300\n",
+    ),
+    (
+        "rules.toml",
+        b"base = \"DUB\"\nseat = \"FO\"\nyear = 2026\nmonth = 6\noffset = 0\ndays_off = 30\n",
+        "no 1 1 9 29\n",
+    ),
+];
+
+/// Certificates of items and forms that are not judged yet.
+pub const LATER: [Row; 4] = [
+    (
+        "certificate.txt",
+        b"pbs-certificate 1\naward 1 0\nproof 1\nnoline 1 60 0000000000000000 0 0\nend\n",
+        "not yet certificate.txt\n",
+    ),
+    (
+        "certificate.txt",
+        b"pbs-certificate 1\nnone\nproof 1\ncount 1\nend\n",
+        "not yet certificate.txt\n",
+    ),
+    (
+        "certificate.txt",
+        b"pbs-certificate 1\naward 1 0\nproof 2\nweights 1 -1\nlens\nend\n",
+        "not yet certificate.txt\n",
+    ),
+    ("certificate.txt", b"shown\n", "not yet certificate.txt\n"),
+];
+
+/// Bids with a fault of each code.
+pub const BAD_BIDS: [Row; 11] = [
+    ("bids.txt", b"member M9", "bad bids.txt 1 8 5\n"),
+    ("bids.txt", b"10 fly P1", "bad bids.txt 1 1 2\n"),
+    ("bids.txt", b"member M1\nmember M1", "bad bids.txt 2 8 9\n"),
+    ("bids.txt", b"member M1\n10 fly P9", "bad bids.txt 2 8 6\n"),
+    ("bids.txt", b"member M1\n0 fly P1", "bad bids.txt 2 1 7\n"),
+    (
+        "bids.txt",
+        b"member M1\n1001 fly P1",
+        "bad bids.txt 2 1 7\n",
+    ),
+    (
+        "bids.txt",
+        b"member M1\n10 off 2026-02-30",
+        "bad bids.txt 2 8 4\n",
+    ),
+    (
+        "bids.txt",
+        b"member M1\n10 avoid report before 08:60",
+        "bad bids.txt 2 24 3\n",
+    ),
+    ("bids.txt", b"member M1\n10 fly", "bad bids.txt 2 7 2\n"),
+    (
+        "bids.txt",
+        b"member M1\n10 fly P\xc3",
+        "bad bids.txt 2 9 1\n",
+    ),
+    (
+        "bids.txt",
+        b"member M1\n1 avoid days 1 and days 1 and days 1 and days 1 and days 1 and days 1 and days 1 and days 1 and days 1",
+        "bad bids.txt 2 97 8\n",
+    ),
+];
+
+/// Files of each kind with a fault of each code.
+pub const BAD_FILES: [Row; 22] = [
+    ("rules.toml", b"base: DUB\n", "bad rules.toml 1\n"),
+    (
+        "rules.toml",
+        b"base = \"DUB\"\nseat = \"FO\"\nyear = 2026\noffset = 0\ndays_off = 0\n",
+        "bad rules.toml 2 month\n",
+    ),
+    (
+        "rules.toml",
+        b"base = \"DUB\"\nseat = \"FO\"\nyear = 2026\nmonth = 6\noffset = 0\ndays_off = 0\ndays = 30\n",
+        "bad rules.toml 3 days\n",
+    ),
+    (
+        "rules.toml",
+        b"base = \"DUB\"\nseat = \"FO\"\nyear = 2026\nmonth = 13\noffset = 0\ndays_off = 0\n",
+        "bad rules.toml 4 month\n",
+    ),
+    (
+        "pairings.csv",
+        b"pairing,need\nP1,1,5:00\n",
+        "bad pairings.csv 1 1\n",
+    ),
+    (
+        "crew.csv",
+        b"member,low,high\nM\xc3,0:00,90:00\n",
+        "bad crew.csv 2 2\n",
+    ),
+    (
+        "pairings.csv",
+        b"pairing,need,credit\nP1,1\n",
+        "bad pairings.csv 2 3\n",
+    ),
+    (
+        "pairings.csv",
+        b"pairing,need,credit\nP1,,5:00\n",
+        "bad pairings.csv 2 4 2 1\n",
+    ),
+    (
+        "pairings.csv",
+        b"pairing,need,credit\nP1,1,5-00\n",
+        "bad pairings.csv 2 4 3 2 2\n",
+    ),
+    (
+        "pairings.csv",
+        b"pairing,need,credit\nP1,1,5:60\n",
+        "bad pairings.csv 2 4 3 3\n",
+    ),
+    (
+        "duties.csv",
+        b"pairing,no,report,parked,release,layover\nP1,1,2026-06-31T08:00Z,2026-06-10T14:00Z,2026-06-10T14:30Z,\n",
+        "bad duties.csv 2 4 3 4\n",
+    ),
+    (
+        "duties.csv",
+        b"pairing,no,report,parked,release,layover\nP1,1,2026-06-10T08:00Z,2026-06-10T14:00Z,2028-06-10T14:30Z,\n",
+        "bad duties.csv 2 4 5 5\n",
+    ),
+    (
+        "pairings.csv",
+        b"pairing,need,credit\nP1,1,5:00\nP1,1,5:00\n",
+        "bad pairings.csv 3 5\n",
+    ),
+    (
+        "legs.csv",
+        b"pairing,no,from,to,out,in\nP1,2,DUB,LHR,2026-06-10T09:00Z,2026-06-10T13:00Z\n",
+        "bad legs.csv 2 6\n",
+    ),
+    (
+        "history.csv",
+        b"member,kind,report,parked,release,legs,credit\nM9,ground,2026-05-09T18:00Z,2026-05-09T22:00Z,2026-05-09T22:00Z,,0:00\n",
+        "bad history.csv 2 6\n",
+    ),
+    (
+        "crew.csv",
+        b"member,low,high\nM1,90:00,0:00\n",
+        "bad crew.csv 2 7\n",
+    ),
+    (
+        "history.csv",
+        b"member,kind,report,parked,release,legs,credit\nM1,ground,2026-06-09T18:00Z,2026-06-09T22:00Z,2026-06-09T22:00Z,,0:00\n",
+        "bad history.csv 2 8\n",
+    ),
+    (
+        "fixed.csv",
+        b"member,kind,report,parked,release,legs,credit\nM1,ground,2026-05-09T18:00Z,2026-05-09T22:00Z,2026-05-09T22:00Z,,0:00\n",
+        "bad fixed.csv 2 8\n",
+    ),
+    (
+        "duties.csv",
+        b"pairing,no,report,parked,release,layover\nP1,1,2026-06-10T08:00Z,2026-06-10T14:00Z,2026-06-10T22:00Z,\nP1,2,2026-06-11T07:59Z,2026-06-11T14:00Z,2026-06-11T14:30Z,\n",
+        "bad duties.csv 3 9\n",
+    ),
+    (
+        "pairings.csv",
+        b"pairing,need,credit\nP1,10,5:00\n",
+        "bad pairings.csv 2 10 5\n",
+    ),
+    ("crew.csv", b"member,low,high\n", "bad crew.csv 1 11\n"),
+    (
+        "legs.csv",
+        b"pairing,no,from,to,out,in\n",
+        "bad duties.csv 2 11\n",
+    ),
+];
+
+/// A pairing of two duties with just ten hours between them.
+pub const SECOND_DUTY: [(&str, &[u8]); 2] = [
+    (
+        "duties.csv",
+        b"pairing,no,report,parked,release,layover\nP1,1,2026-06-10T08:00Z,2026-06-10T14:00Z,2026-06-10T22:00Z,\nP1,2,2026-06-11T08:00Z,2026-06-11T14:00Z,2026-06-11T14:30Z,\n",
+    ),
+    (
+        "legs.csv",
+        b"pairing,no,from,to,out,in\nP1,1,DUB,LHR,2026-06-10T09:00Z,2026-06-10T13:00Z\nP1,2,LHR,DUB,2026-06-11T09:00Z,2026-06-11T13:00Z\n",
+    ),
+];
+
+/// A pairing without a duty.
+pub const NO_DUTY: [(&str, &[u8]); 2] = [
+    ("duties.csv", b"pairing,no,report,parked,release,layover\n"),
+    ("legs.csv", b"pairing,no,from,to,out,in\n"),
+];
+
+/// A fault of the crew and one of the bids.
+pub const TWO_FAULTS: [(&str, &[u8]); 2] = [
+    ("crew.csv", b"member,low,high\nM1,0:60,90:00\n"),
+    ("bids.txt", b"10 fly P1"),
+];
+
+/// A fault of the fixed events, and a certificate that is none.
+pub const UNFIT_CERTIFICATE: [(&str, &[u8]); 2] = [
+    ("fixed.csv", b"member\n"),
+    ("certificate.txt", b"end\n"),
+];
+
+/// Two members bid for the one pairing, and the senior one flies it.
+pub const SENIORITY: [(&str, &[u8]); 4] = [
+    (
+        "crew.csv",
+        b"member,low,high\nM1,0:00,90:00\nM2,0:00,90:00\n",
+    ),
+    ("bids.txt", b"member M1\n10 fly P1\nmember M2\n10 fly P1\n"),
+    (
+        "certificate.txt",
+        b"pbs-certificate 1\naward 2 0\nproof 3\nsplit 1 1\nfixed 1\nfixed 1\nproof 5\nsplit 1 1\nsplit 2 1\ncount 1\nfixed 2\nfixed 1\nend\n",
+    ),
+    (
+        "roster.csv",
+        b"member,pairings,credit,score\nM1,P1,5:00,10\nM2,,0:00,0\n",
+    ),
+];
+
+/// The same with the rows of the roster in the other order.
+pub const ROWS_TURNED: [(&str, &[u8]); 4] = [
+    (
+        "crew.csv",
+        b"member,low,high\nM1,0:00,90:00\nM2,0:00,90:00\n",
+    ),
+    ("bids.txt", b"member M1\n10 fly P1\nmember M2\n10 fly P1\n"),
+    (
+        "certificate.txt",
+        b"pbs-certificate 1\naward 2 0\nproof 3\nsplit 1 1\nfixed 1\nfixed 1\nproof 5\nsplit 1 1\nsplit 2 1\ncount 1\nfixed 2\nfixed 1\nend\n",
+    ),
+    (
+        "roster.csv",
+        b"member,pairings,credit,score\nM2,,0:00,0\nM1,P1,5:00,10\n",
+    ),
+];
+
+/// The same with the junior member flying.
+pub const JUNIOR_FLIES: [(&str, &[u8]); 4] = [
+    (
+        "crew.csv",
+        b"member,low,high\nM1,0:00,90:00\nM2,0:00,90:00\n",
+    ),
+    ("bids.txt", b"member M1\n10 fly P1\nmember M2\n10 fly P1\n"),
+    (
+        "certificate.txt",
+        b"pbs-certificate 1\naward 2 0\nproof 3\nsplit 1 1\nfixed 1\nfixed 1\nproof 5\nsplit 1 1\nsplit 2 1\ncount 1\nfixed 2\nfixed 1\nend\n",
+    ),
+    (
+        "roster.csv",
+        b"member,pairings,credit,score\nM1,,0:00,0\nM2,P1,5:00,10\n",
+    ),
+];
+
+/// Both members fly the pairing that needs one.
+pub const BOTH_FLY: [(&str, &[u8]); 4] = [
+    (
+        "crew.csv",
+        b"member,low,high\nM1,0:00,90:00\nM2,0:00,90:00\n",
+    ),
+    ("bids.txt", b"member M1\n10 fly P1\nmember M2\n10 fly P1\n"),
+    (
+        "certificate.txt",
+        b"pbs-certificate 1\naward 2 0\nproof 0\nproof 0\nend\n",
+    ),
+    (
+        "roster.csv",
+        b"member,pairings,credit,score\nM1,P1,5:00,10\nM2,P1,5:00,10\n",
+    ),
+];
+
+/// Flights of just 60 hours of duty periods in a week, and no pairing.
+pub const SIXTY_HOURS: [(&str, &[u8]); 7] = [
+    ("pairings.csv", b"pairing,need,credit\n"),
+    ("duties.csv", b"pairing,no,report,parked,release,layover\n"),
+    ("legs.csv", b"pairing,no,from,to,out,in\n"),
+    ("bids.txt", b""),
+    (
+        "certificate.txt",
+        b"pbs-certificate 1\naward 1 0\nproof 1\nfixed 1\nend\n",
+    ),
+    ("roster.csv", b"member,pairings,credit,score\nM1,,0:00,0\n"),
+    (
+        "fixed.csv",
+        b"member,kind,report,parked,release,legs,credit\nM1,flight,2026-06-08T13:17Z,2026-06-08T23:17Z,2026-06-08T23:47Z,2026-06-08T14:17Z/2026-06-08T22:17Z,0:00\nM1,flight,2026-06-09T13:17Z,2026-06-09T23:17Z,2026-06-09T23:47Z,2026-06-09T14:17Z/2026-06-09T22:17Z,0:00\nM1,flight,2026-06-10T13:17Z,2026-06-10T23:17Z,2026-06-10T23:47Z,2026-06-10T14:17Z/2026-06-10T22:17Z,0:00\nM1,flight,2026-06-12T13:17Z,2026-06-12T23:17Z,2026-06-12T23:47Z,2026-06-12T14:17Z/2026-06-12T22:17Z,0:00\nM1,flight,2026-06-13T13:17Z,2026-06-13T23:17Z,2026-06-13T23:47Z,2026-06-13T14:17Z/2026-06-13T22:17Z,0:00\nM1,flight,2026-06-15T03:17Z,2026-06-15T13:17Z,2026-06-15T13:47Z,2026-06-15T04:17Z/2026-06-15T12:17Z,0:00\n",
+    ),
+];
+
+/// The same with a minute more.
+pub const SIXTY_HOURS_AND_A_MINUTE: [(&str, &[u8]); 7] = [
+    ("pairings.csv", b"pairing,need,credit\n"),
+    ("duties.csv", b"pairing,no,report,parked,release,layover\n"),
+    ("legs.csv", b"pairing,no,from,to,out,in\n"),
+    ("bids.txt", b""),
+    (
+        "certificate.txt",
+        b"pbs-certificate 1\naward 1 0\nproof 1\nfixed 1\nend\n",
+    ),
+    ("roster.csv", b"member,pairings,credit,score\nM1,,0:00,0\n"),
+    (
+        "fixed.csv",
+        b"member,kind,report,parked,release,legs,credit\nM1,flight,2026-06-08T13:17Z,2026-06-08T23:17Z,2026-06-08T23:47Z,2026-06-08T14:17Z/2026-06-08T22:17Z,0:00\nM1,flight,2026-06-09T13:17Z,2026-06-09T23:17Z,2026-06-09T23:47Z,2026-06-09T14:17Z/2026-06-09T22:17Z,0:00\nM1,flight,2026-06-10T13:17Z,2026-06-10T23:18Z,2026-06-10T23:47Z,2026-06-10T14:17Z/2026-06-10T22:17Z,0:00\nM1,flight,2026-06-12T13:17Z,2026-06-12T23:17Z,2026-06-12T23:47Z,2026-06-12T14:17Z/2026-06-12T22:17Z,0:00\nM1,flight,2026-06-13T13:17Z,2026-06-13T23:17Z,2026-06-13T23:47Z,2026-06-13T14:17Z/2026-06-13T22:17Z,0:00\nM1,flight,2026-06-15T03:17Z,2026-06-15T13:17Z,2026-06-15T13:47Z,2026-06-15T04:17Z/2026-06-15T12:17Z,0:00\n",
+    ),
+];
+
+/// History and the pairing fly just 100 hours in 28 days.
+pub const HUNDRED_HOURS: [(&str, &[u8]); 2] = [
+    (
+        "history.csv",
+        b"member,kind,report,parked,release,legs,credit\nM1,flight,2026-05-14T08:00Z,2026-05-14T18:00Z,2026-05-14T18:30Z,2026-05-14T08:05Z/2026-05-14T17:55Z,0:00\nM1,flight,2026-05-15T08:00Z,2026-05-15T18:00Z,2026-05-15T18:30Z,2026-05-15T08:05Z/2026-05-15T17:55Z,0:00\nM1,flight,2026-05-16T08:00Z,2026-05-16T18:00Z,2026-05-16T18:30Z,2026-05-16T08:05Z/2026-05-16T17:55Z,0:00\nM1,flight,2026-05-17T08:00Z,2026-05-17T18:00Z,2026-05-17T18:30Z,2026-05-17T08:05Z/2026-05-17T17:55Z,0:00\nM1,flight,2026-05-18T08:00Z,2026-05-18T18:00Z,2026-05-18T18:30Z,2026-05-18T08:05Z/2026-05-18T17:55Z,0:00\nM1,flight,2026-05-19T08:00Z,2026-05-19T18:00Z,2026-05-19T18:30Z,2026-05-19T08:05Z/2026-05-19T17:55Z,0:00\nM1,flight,2026-05-20T08:00Z,2026-05-20T18:00Z,2026-05-20T18:30Z,2026-05-20T08:05Z/2026-05-20T17:55Z,0:00\nM1,flight,2026-05-21T08:00Z,2026-05-21T18:00Z,2026-05-21T18:30Z,2026-05-21T08:05Z/2026-05-21T17:55Z,0:00\nM1,flight,2026-05-22T08:00Z,2026-05-22T18:00Z,2026-05-22T18:30Z,2026-05-22T08:05Z/2026-05-22T17:55Z,0:00\nM1,flight,2026-05-23T08:00Z,2026-05-23T18:00Z,2026-05-23T18:30Z,2026-05-23T08:05Z/2026-05-23T17:55Z,0:00\n",
+    ),
+    (
+        "legs.csv",
+        b"pairing,no,from,to,out,in\nP1,1,DUB,LHR,2026-06-10T09:00Z,2026-06-10T10:40Z\n",
+    ),
+];
+
+/// The same with a minute more.
+pub const HUNDRED_HOURS_AND_A_MINUTE: [(&str, &[u8]); 2] = [
+    (
+        "history.csv",
+        b"member,kind,report,parked,release,legs,credit\nM1,flight,2026-05-14T08:00Z,2026-05-14T18:00Z,2026-05-14T18:30Z,2026-05-14T08:05Z/2026-05-14T17:55Z,0:00\nM1,flight,2026-05-15T08:00Z,2026-05-15T18:00Z,2026-05-15T18:30Z,2026-05-15T08:05Z/2026-05-15T17:55Z,0:00\nM1,flight,2026-05-16T08:00Z,2026-05-16T18:00Z,2026-05-16T18:30Z,2026-05-16T08:05Z/2026-05-16T17:55Z,0:00\nM1,flight,2026-05-17T08:00Z,2026-05-17T18:00Z,2026-05-17T18:30Z,2026-05-17T08:05Z/2026-05-17T17:55Z,0:00\nM1,flight,2026-05-18T08:00Z,2026-05-18T18:00Z,2026-05-18T18:30Z,2026-05-18T08:05Z/2026-05-18T17:55Z,0:00\nM1,flight,2026-05-19T08:00Z,2026-05-19T18:00Z,2026-05-19T18:30Z,2026-05-19T08:05Z/2026-05-19T17:55Z,0:00\nM1,flight,2026-05-20T08:00Z,2026-05-20T18:00Z,2026-05-20T18:30Z,2026-05-20T08:05Z/2026-05-20T17:55Z,0:00\nM1,flight,2026-05-21T08:00Z,2026-05-21T18:00Z,2026-05-21T18:30Z,2026-05-21T08:05Z/2026-05-21T17:55Z,0:00\nM1,flight,2026-05-22T08:00Z,2026-05-22T18:00Z,2026-05-22T18:30Z,2026-05-22T08:05Z/2026-05-22T17:55Z,0:00\nM1,flight,2026-05-23T08:00Z,2026-05-23T18:00Z,2026-05-23T18:30Z,2026-05-23T08:05Z/2026-05-23T17:55Z,0:00\n",
+    ),
+    (
+        "legs.csv",
+        b"pairing,no,from,to,out,in\nP1,1,DUB,LHR,2026-06-10T09:00Z,2026-06-10T10:41Z\n",
+    ),
+];
+
+/// History alone flies more than 100 hours in the first 28 days that end in the month.
+pub const FIRST_WINDOW: [(&str, &[u8]); 2] = [
+    (
+        "history.csv",
+        b"member,kind,report,parked,release,legs,credit\nM1,flight,2026-05-03T21:30Z,2026-05-04T04:30Z,2026-05-04T05:00Z,2026-05-03T22:00Z/2026-05-04T04:00Z,0:00\nM1,flight,2026-05-14T08:00Z,2026-05-14T18:00Z,2026-05-14T18:30Z,2026-05-14T08:05Z/2026-05-14T17:55Z,0:00\nM1,flight,2026-05-15T08:00Z,2026-05-15T18:00Z,2026-05-15T18:30Z,2026-05-15T08:05Z/2026-05-15T17:55Z,0:00\nM1,flight,2026-05-16T08:00Z,2026-05-16T18:00Z,2026-05-16T18:30Z,2026-05-16T08:05Z/2026-05-16T17:55Z,0:00\nM1,flight,2026-05-17T08:00Z,2026-05-17T18:00Z,2026-05-17T18:30Z,2026-05-17T08:05Z/2026-05-17T17:55Z,0:00\nM1,flight,2026-05-18T08:00Z,2026-05-18T18:00Z,2026-05-18T18:30Z,2026-05-18T08:05Z/2026-05-18T17:55Z,0:00\nM1,flight,2026-05-19T08:00Z,2026-05-19T18:00Z,2026-05-19T18:30Z,2026-05-19T08:05Z/2026-05-19T17:55Z,0:00\nM1,flight,2026-05-20T08:00Z,2026-05-20T18:00Z,2026-05-20T18:30Z,2026-05-20T08:05Z/2026-05-20T17:55Z,0:00\nM1,flight,2026-05-21T08:00Z,2026-05-21T18:00Z,2026-05-21T18:30Z,2026-05-21T08:05Z/2026-05-21T17:55Z,0:00\nM1,flight,2026-05-22T08:00Z,2026-05-22T18:00Z,2026-05-22T18:30Z,2026-05-22T08:05Z/2026-05-22T17:55Z,0:00\nM1,flight,2026-05-23T08:00Z,2026-05-23T18:00Z,2026-05-23T18:30Z,2026-05-23T08:05Z/2026-05-23T17:55Z,0:00\n",
+    ),
+    ("roster.csv", b"member,pairings,credit,score\nM1,,0:00,0\n"),
+];
+
+/// A pairing between the duties of another.
+pub const INTERLEAVED: [(&str, &[u8]); 4] = [
+    (
+        "pairings.csv",
+        b"pairing,need,credit\nP1,1,10:00\nP2,1,5:00\n",
+    ),
+    (
+        "duties.csv",
+        b"pairing,no,report,parked,release,layover\nP1,1,2026-06-10T08:00Z,2026-06-10T14:00Z,2026-06-10T14:30Z,ORD\nP1,2,2026-06-14T10:00Z,2026-06-14T16:00Z,2026-06-14T16:30Z,\nP2,1,2026-06-12T08:00Z,2026-06-12T14:00Z,2026-06-12T14:30Z,\n",
+    ),
+    (
+        "legs.csv",
+        b"pairing,no,from,to,out,in\nP1,1,DUB,ORD,2026-06-10T09:00Z,2026-06-10T13:00Z\nP1,2,ORD,DUB,2026-06-14T11:00Z,2026-06-14T15:00Z\nP2,1,DUB,LHR,2026-06-12T09:00Z,2026-06-12T13:00Z\n",
+    ),
+    (
+        "roster.csv",
+        b"member,pairings,credit,score\nM1,P1 P2,15:00,10\n",
+    ),
+];
+
+/// The pairing is flown on June 9.
+pub const NINTH: [(&str, &[u8]); 3] = [
+    ("pairings.csv", b"pairing,need,credit\nP1,1,5:00\n"),
+    (
+        "duties.csv",
+        b"pairing,no,report,parked,release,layover\nP1,1,2026-06-09T08:00Z,2026-06-09T14:00Z,2026-06-09T14:30Z,\n",
+    ),
+    (
+        "legs.csv",
+        b"pairing,no,from,to,out,in\nP1,1,DUB,LHR,2026-06-09T09:00Z,2026-06-09T13:00Z\n",
+    ),
+];
+
+/// Two members and four pairings of two days, without bids and roster.
+pub const WISHES: [(&str, &[u8]); 8] = [
+    (
+        "rules.toml",
+        b"base = \"DUB\"\nseat = \"FO\"\nyear = 2026\nmonth = 6\noffset = 0\ndays_off = 0\n",
+    ),
+    (
+        "pairings.csv",
+        b"pairing,need,credit\nP1,1,10:00\nP2,1,10:00\nP3,1,10:00\nP4,1,10:00\n",
+    ),
+    (
+        "duties.csv",
+        b"pairing,no,report,parked,release,layover\nP1,1,2026-06-03T08:00Z,2026-06-03T14:00Z,2026-06-03T14:30Z,ORD\nP1,2,2026-06-04T10:00Z,2026-06-04T16:00Z,2026-06-04T16:30Z,\nP2,1,2026-06-06T08:00Z,2026-06-06T14:00Z,2026-06-06T14:30Z,DEN\nP2,2,2026-06-07T10:00Z,2026-06-07T16:00Z,2026-06-07T16:30Z,\nP3,1,2026-06-13T08:00Z,2026-06-13T14:00Z,2026-06-13T14:30Z,ORD\nP3,2,2026-06-14T10:00Z,2026-06-14T16:00Z,2026-06-14T16:30Z,\nP4,1,2026-06-16T08:00Z,2026-06-16T14:00Z,2026-06-16T14:30Z,DEN\nP4,2,2026-06-17T10:00Z,2026-06-17T16:00Z,2026-06-17T16:30Z,\n",
+    ),
+    (
+        "legs.csv",
+        b"pairing,no,from,to,out,in\nP1,1,DUB,ORD,2026-06-03T09:00Z,2026-06-03T13:00Z\nP1,2,ORD,DUB,2026-06-04T11:00Z,2026-06-04T15:00Z\nP2,1,DUB,DEN,2026-06-06T09:00Z,2026-06-06T13:00Z\nP2,2,DEN,DUB,2026-06-07T11:00Z,2026-06-07T15:00Z\nP3,1,DUB,ORD,2026-06-13T09:00Z,2026-06-13T13:00Z\nP3,2,ORD,DUB,2026-06-14T11:00Z,2026-06-14T15:00Z\nP4,1,DUB,DEN,2026-06-16T09:00Z,2026-06-16T13:00Z\nP4,2,DEN,DUB,2026-06-17T11:00Z,2026-06-17T15:00Z\n",
+    ),
+    (
+        "crew.csv",
+        b"member,low,high\nM1,0:00,90:00\nM2,0:00,90:00\n",
+    ),
+    (
+        "history.csv",
+        b"member,kind,report,parked,release,legs,credit\n",
+    ),
+    (
+        "fixed.csv",
+        b"member,kind,report,parked,release,legs,credit\n",
+    ),
+    (
+        "certificate.txt",
+        b"pbs-certificate 1\naward 2 0\nproof 0\nproof 0\nend\n",
+    ),
+];
+
+/// A wish, the pairings and credits of both members, and whether the first member's line grants the wish.
+pub type Wish = (&'static str, &'static str, &'static str, bool);
+
+/// Wishes that lines grant and deny.
+pub const GRANTS: [Wish; 7] = [
+    (
+        "prefer 2 days 2 and not layover DEN",
+        "P1 P3,20:00",
+        "P2 P4,20:00",
+        true,
+    ),
+    (
+        "prefer 2 days 2 and not layover DEN",
+        "P1 P2,20:00",
+        "P3 P4,20:00",
+        false,
+    ),
+    ("credit above 20:00", "P1 P2,20:00", "P3 P4,20:00", false),
+    ("credit below 20:01", "P1 P2,20:00", "P3 P4,20:00", true),
+    ("daysoff 26", "P1 P2,20:00", "P3 P4,20:00", true),
+    ("daysoff 27", "P1 P2,20:00", "P3 P4,20:00", false),
+    (
+        "avoid report before 08:00",
+        "P1,10:00",
+        "P2 P3 P4,30:00",
+        true,
+    ),
+];
+
+/// Words that are no command.
+pub const NO_COMMANDS: [&[&str]; 7] = [
+    &[],
+    &["check", "check"],
+    &["award", "--nodes", "0"],
+    &["award", "--nodes", "20001"],
+    &["show"],
+    &["judge"],
+    &["Check"],
+];
+
+/// The line that is then printed.
+pub const USAGE: &str =
+    "usage: pbs FOLDER award [--nodes N] | check | show MEMBER | make NUMBER MEMBERS PAIRINGS | trial NUMBER MEMBERS PAIRINGS [--nodes N]\n";
