@@ -1,5 +1,5 @@
 -- How `check` ends, from what its stages answer.
-use Rattle.std.proofs.Common.{◌≡◌, ℕ, ◌<◌, Bool, true, false, cond, ltb, List, length, Option, Some, None, Result, Ok, Err, refl, sym, ap, ◌∙◌, inl, inr}
+use Rattle.std.proofs.Common.{◌≡◌, ℕ, Bool, true, false, cond, ltb, List, length, Option, Some, None, Result, Ok, Err, ap, inl, inr}
 use Rattle.shelf.specs.Files.{Files, file}
 use Rattle.roster_model.specs.declared.problem.Problem.{Problem}
 use Rattle.roster_model.specs.declared.proof.Item.{Item}
@@ -9,9 +9,9 @@ use Rattle.pbs_engine.specs.declared.file.File.TheVariants.{Rules, Pairings, Dut
 use Rattle.pbs_engine.specs.declared.stop.Stop.{Stop}
 use Rattle.pbs_engine.specs.declared.stop.Stop.TheVariants as stop
 use Rattle.pbs_engine.specs.declared.stop.Refusal.TheVariants as refusal
-use Rattle.pbs_engine.specs.Reading.{◌>>=◌, Inputs, StopIs, within, text_in, texts_in}
-use Rattle.pbs_engine.specs.Checks.{Given, given_in, HasBadInput, NamesProblem, HasLaterForm, HasNoCertificate, NamesProofs, EndsAtRoster, HasNoRosterText, NamesAll, IsJudged, Judges, IsCheck}
-use Rattle.pbs_engine.specs.Stages.{Ends, AreProofsOf, HasProofs, IsRosterOf}
+use Rattle.pbs_engine.specs.Reading.{◌>>=◌, StopIs, within, text_in, texts_in}
+use Rattle.pbs_engine.specs.Checks.{Given, given_in, NamesProblem, NamesProofs, NamesAll, Judges, IsCheck}
+use Rattle.pbs_engine.specs.Stages.{Ends, AreProofsOf, IsRosterOf}
 use Rattle.pbs_engine.specs.Months.{Names}
 
 -- the end of a reading: a file that is missing or too long

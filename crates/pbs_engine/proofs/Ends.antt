@@ -1,5 +1,5 @@
 -- Faults of the inputs, as ends of a run.
-use Rattle.std.proofs.Common.{◌≡◌, ◌≢◌, List, Result, Ok, Err, refl}
+use Rattle.std.proofs.Common.{◌≡◌, ◌≢◌, Result, Err, refl}
 use Rattle.rules_file.specs.declared.fault.RuleFault.{RuleFault}
 use Rattle.rules_file.specs.declared.fault.RuleFault.TheVariants as rule
 use Rattle.rules_file.specs.Rules.{rules_file}
@@ -13,7 +13,6 @@ use Rattle.bid_language.specs.declared.fault.BidCode.TheVariants as bid
 use Rattle.bid_language.specs.declared.fault.BidFault.{BidFault}
 use Rattle.bid_language.specs.Sheets as sheets
 use Rattle.pbs_engine.specs.declared.stop.InputFault.{InputFault}
-use Rattle.pbs_engine.specs.declared.stop.InputFault.TheVariants as input
 use Rattle.pbs_engine.specs.declared.stop.Stop.{Stop}
 use Rattle.pbs_engine.specs.declared.stop.Stop.TheVariants as stop
 use Rattle.pbs_engine.specs.Reading.{Inputs}

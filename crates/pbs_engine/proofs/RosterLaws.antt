@@ -1,10 +1,9 @@
 -- A roster's text is read as the roster that it spells, and as no other.
 use Rattle.std.proofs.Common.{◌≡◌, ◌≢◌, ℕ, zero, suc, ◌+◌, ◌-◌, ◌<◌, ◌≤◌, Bool, true, false, cond, eqb, leb, List, [], ◌∷◌, ◌++◌, length, get_or, Option, Some, None, Result, Ok, Err, refl, sym, ap, subst, ◌∙◌, append_assoc, arith, inl, inr}
-use Rattle.std.specs.Prelude.{codes, IfOk, All, AllPairs, slice_get, IsTrue}
+use Rattle.std.specs.Prelude.{IfOk, All, slice_get, IsTrue}
 use Rattle.std.specs.List.{list_all, AllByRecursion}
 use Rattle.std.specs.Option.{option_map_or}
-use Rattle.std.proofs.lemmas.Bool.{eqb-true, eq-eqb, ne_eqb, cases_Bool, false≢true, and_parts, leb-true, le-leb, cases_order}
-use Rattle.std.proofs.lemmas.Bool.Decides.{nat_tests}
+use Rattle.std.proofs.lemmas.Bool.{eqb-true, ne_eqb, false≢true, and_parts, leb-true, le-leb, cases_order}
 use Rattle.std.proofs.lemmas.List.{append-nil, nil_from_length}
 use Rattle.std.proofs.lemmas.Option.{slice_get_cases, get_or_from_slice_get}
 use Rattle.duty_calendar.specs.Forms.{is_name, is_name_byte}
@@ -17,7 +16,7 @@ use Rattle.pbs_engine.specs.CertificateReading.{◌>>=◌, Fails, Gives, word_at
 use Rattle.pbs_engine.specs.RosterText.{pairing_name, member_name, names_text, sums_text, row_text, rows_text, roster_header, roster_text, IsLine, IsRoster}
 use Rattle.pbs_engine.specs.RosterReading.{HasNames, after_separator, name_at, named, names_at, line_at, summed_at, row_at, rows_at, roster_of}
 use Rattle.pbs_engine.proofs.Several.{with_front, regroup}
-use Rattle.pbs_engine.proofs.CertificateLaws.{bind_some, some_if, some_is, word_takes, word_again, unless}
+use Rattle.pbs_engine.proofs.CertificateLaws.{bind_some, some_if, some_is, word_takes, word_again}
 
 -- ---- names
 

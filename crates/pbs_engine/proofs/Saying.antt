@@ -1,5 +1,5 @@
 -- An answer and what was said of it.
-use Rattle.std.proofs.Common.{◌≡◌, ◌≤◌, ℕ, List, [], Option, Some, None, Result, Ok, Err, refl, sym, ap}
+use Rattle.std.proofs.Common.{ℕ, List, [], Option, Some, None, Err, refl, sym, ap}
 use Rattle.std.proofs.lemmas.List.{append-nil}
 use Rattle.shelf.specs.declared.fault.SinkFault.TheVariants.{NoMemory}
 use Rattle.shelf.specs.Puts.{Puts}

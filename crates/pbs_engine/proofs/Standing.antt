@@ -4,7 +4,7 @@ use Rattle.shelf.specs.Files.{Files, file}
 use Rattle.shelf.specs.Puts.{with_piece, Puts}
 use Rattle.shelf.specs.declared.fault.SinkFault.{SinkFault}
 use Rattle.shelf.specs.declared.fault.SinkFault.TheVariants.{PutFailed, NoMemory}
-use Rattle.roster_model.specs.Rosters.{IsComplete, IsGreater, scores_of}
+use Rattle.roster_model.specs.Rosters.{IsGreater, scores_of}
 use Rattle.pbs_engine.specs.FileNames.{name_of, limit_of}
 use Rattle.pbs_engine.specs.declared.file.File.{File}
 use Rattle.pbs_engine.specs.declared.file.File.TheVariants.{Certificate, Roster}
@@ -14,11 +14,11 @@ use Rattle.pbs_engine.specs.declared.status.Status.{Status}
 use Rattle.pbs_engine.specs.declared.status.Status.TheVariants as status
 use Rattle.pbs_engine.specs.declared.stop.Stop.{Stop}
 use Rattle.pbs_engine.specs.declared.stop.Stop.TheVariants as stop
-use Rattle.pbs_engine.specs.Reading.{◌>>=◌, Inputs, within, text_in, texts_in}
-use Rattle.pbs_engine.specs.Checks.{Given, given_in, IsCheck, IsJudged}
+use Rattle.pbs_engine.specs.Reading.{◌>>=◌, within, text_in, texts_in}
+use Rattle.pbs_engine.specs.Checks.{Given, given_in, IsCheck}
 use Rattle.pbs_engine.specs.Answers.{text_of}
 use Rattle.pbs_engine.specs.Headline.{AwardStands, yes_text}
-use Rattle.pbs_engine.specs.Runs.{Answers, Said, IsAnswer, ending}
+use Rattle.pbs_engine.specs.Runs.{Said, IsAnswer, ending}
 use Rattle.pbs_engine.proofs.RosterLaws.{roster_takes}
 
 bind_ok : {A B : Type 0} (r : Result A Stop) (f : A → Result B Stop) (y : B) → (r >>= f) ≡ Ok y → (x : A) × (r ≡ Ok x) × (f x ≡ Ok y)

@@ -1,10 +1,8 @@
 -- The status and the text of each answer.
 use Rattle.std.specs.Prelude.{ℕ, ◌+◌, List, [], ◌∷◌, ◌++◌, codes, decimal}
 use Rattle.std.specs.List.{flat_map}
-use Rattle.field_text.specs.Codes.{file_code, field_code}
 use Rattle.field_text.specs.declared.field_fault.FieldFault.{FieldFault}
 use Rattle.field_text.specs.declared.field_fault.FieldFault.TheVariants as field
-use Rattle.field_text.specs.declared.file_fault.FileFault.{FileFault}
 use Rattle.field_text.specs.declared.file_fault.FileCode.{FileCode}
 use Rattle.field_text.specs.declared.file_fault.FileCode.TheVariants as code
 use Rattle.field_text.specs.declared.file_fault.FileName.{FileName}
@@ -12,7 +10,6 @@ use Rattle.field_text.specs.declared.file_fault.FileName.TheVariants as csv
 use Rattle.rules_file.specs.declared.fault.RuleFault.{RuleFault}
 use Rattle.rules_file.specs.declared.fault.RuleFault.TheVariants as rule
 use Rattle.bid_language.specs.Codes.{bid_code}
-use Rattle.bid_language.specs.declared.fault.BidFault.{BidFault}
 use Rattle.line_legality.specs.declared.illegal.Illegal.{Illegal}
 use Rattle.line_legality.specs.declared.illegal.Illegal.TheVariants as illegal
 use Rattle.cert_checker.specs.declared.refusal.ItemFault.{ItemFault}
@@ -30,7 +27,6 @@ use Rattle.pbs_engine.specs.declared.stop.InputFault.{InputFault}
 use Rattle.pbs_engine.specs.declared.stop.InputFault.TheVariants as input
 use Rattle.pbs_engine.specs.declared.stop.Refusal.{Refusal}
 use Rattle.pbs_engine.specs.declared.stop.Refusal.TheVariants as refusal
-use Rattle.pbs_engine.specs.declared.stop.Stop.{Stop}
 use Rattle.pbs_engine.specs.declared.stop.Stop.TheVariants as stop
 
 abbrev pub status_of : Answer → Status

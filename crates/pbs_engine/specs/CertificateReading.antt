@@ -1,5 +1,5 @@
 -- Reading a certificate's text from left to right.
-use Rattle.std.specs.Prelude.{◌≡◌, ℕ, zero, suc, List, [], ◌∷◌, ◌++◌, length, take, drop, Option, Some, None, Result, Ok, Err, codes, Bool, false, ◌+◌, ◌-◌, ◌==◌, nat_lt, if◌then◌else◌, position}
+use Rattle.std.specs.Prelude.{◌≡◌, ℕ, zero, suc, List, [], ◌∷◌, length, take, drop, Option, Some, None, Result, Ok, Err, codes, Bool, false, ◌+◌, ◌-◌, ◌==◌, nat_lt, if◌then◌else◌, position}
 use Rattle.std.specs.Str.{bytes_eq}
 use Rattle.pbs_engine.specs.declared.text_fault.TextFault.{TextFault}
 use Rattle.pbs_engine.specs.declared.text_fault.TextFault.TheVariants.{Unread, NoMemory}

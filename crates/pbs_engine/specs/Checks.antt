@@ -1,5 +1,5 @@
 -- What `check` finds in the files of a folder.
-use Rattle.std.specs.Prelude.{◌≡◌, ℕ, List, Option, Some, None, Result, Ok, Err, ◌⊎◌, true, false}
+use Rattle.std.specs.Prelude.{◌≡◌, ℕ, List, Some, None, Result, Ok, Err, ◌⊎◌, true, false}
 use Rattle.shelf.specs.Files.{Files}
 use Rattle.roster_model.specs.declared.problem.Problem.{Problem}
 use Rattle.roster_model.specs.declared.proof.Item.{Item}

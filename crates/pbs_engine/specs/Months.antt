@@ -1,5 +1,5 @@
 -- The month that eight texts name, or their first fault.
-use Rattle.std.specs.Prelude.{◌≡◌, ℕ, List, Result, Ok, Err}
+use Rattle.std.specs.Prelude.{◌≡◌, List, Ok, Err}
 use Rattle.bid_language.specs.Lines.{bids_in}
 use Rattle.bid_language.specs.declared.fault.BidFault.{BidFault}
 use Rattle.crew_files.specs.Files.{members_of}
@@ -11,7 +11,6 @@ use Rattle.field_text.specs.declared.file_fault.FileFault.{FileFault}
 use Rattle.pairing_files.specs.Files.{pairings_of}
 use Rattle.roster_model.specs.declared.problem.Problem.{Problem}
 use Rattle.rules_file.specs.Rules.{rules_file, values}
-use Rattle.rules_file.specs.declared.fault.RuleFault.{RuleFault}
 use Rattle.pbs_engine.specs.declared.stop.InputFault.{InputFault}
 use Rattle.pbs_engine.specs.declared.stop.InputFault.TheVariants as input
 use Rattle.pbs_engine.specs.Reading.{Inputs}

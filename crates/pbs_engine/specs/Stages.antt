@@ -3,8 +3,7 @@ use Rattle.std.specs.Prelude.{◌≡◌, ℕ, List, Option, Some, None, Result, 
 use Rattle.std.specs.declared.alloc.Global.{Global}
 use Rattle.roster_model.specs.declared.problem.Problem.{Problem}
 use Rattle.roster_model.specs.declared.proof.Item.{Item}
-use Rattle.shelf.specs.Files.{Files}
-use Rattle.pbs_engine.specs.declared.file.File.TheVariants.{Certificate, Roster}
+use Rattle.pbs_engine.specs.declared.file.File.TheVariants.{Certificate}
 use Rattle.pbs_engine.specs.declared.reading.Texts.{Texts}
 use Rattle.pbs_engine.specs.declared.stop.Stop.{Stop}
 use Rattle.pbs_engine.specs.declared.stop.Stop.TheVariants as stop
@@ -21,7 +20,7 @@ use Rattle.bid_language.specs.declared.fault.BidCode.TheVariants as bid
 use Rattle.pbs_engine.specs.declared.stop.InputFault.{InputFault}
 use Rattle.pbs_engine.specs.declared.stop.InputFault.TheVariants as input
 use Rattle.pbs_engine.specs.Months.{HasFault}
-use Rattle.pbs_engine.specs.Reading.{Inputs, text_in, view_texts}
+use Rattle.pbs_engine.specs.Reading.{Inputs, view_texts}
 use Rattle.pbs_engine.specs.Checks.{Given}
 
 abbrev pub view_given : Texts × Vec ℕ Global → Given

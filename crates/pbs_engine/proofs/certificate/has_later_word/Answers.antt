@@ -1,6 +1,6 @@
-use Rattle.std.proofs.Common.{◌≡◌, ◌+◌, ◌≤◌, ℕ, sym, ◌∙◌, arith}
+use Rattle.std.proofs.Common.{sym, ◌∙◌, arith}
 use Rattle.std.proofs.lemmas.Bool.{ne_eqb}
-use Rattle.pbs_engine.proofs.Texts.{So_far, line_ends, line_goes_on}
+use Rattle.pbs_engine.proofs.Texts.{line_ends, line_goes_on}
 use Rattle.pbs_engine.proofs.certificate.has_later_word.Goals as goal
 use Rattle.pbs_engine.proofs.certificate.has_later_word.Goals.{then-bytes-at-eq10+else-is_later_line, else-bytes-at-eq10}
 

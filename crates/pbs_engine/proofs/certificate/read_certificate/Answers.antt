@@ -1,7 +1,6 @@
-use Rattle.std.proofs.Common.{◌≡◌, ap, subst, ◌∙◌}
-use Rattle.std.specs.Prelude.{IfOk, Ok, Err, Result}
+use Rattle.std.proofs.Common.{ap, subst, ◌∙◌}
 use Rattle.pbs_engine.specs.CertificateReading.{Gives, certificate_of}
-use Rattle.pbs_engine.proofs.CertificateLaws.{certificate_takes, certificate_again, certificate_found}
+use Rattle.pbs_engine.proofs.CertificateLaws.{certificate_again, certificate_found}
 use Rattle.pbs_engine.proofs.certificate.read_certificate.Goals as goal
 
 pub returns-clause-found : goal.returns-clause-found

@@ -1,6 +1,5 @@
-use Rattle.std.proofs.Common.{◌≡◌, ℕ, List, Ok, Err, ◌∙◌, subst, sym}
+use Rattle.std.proofs.Common.{ℕ, List, Ok, Err, ◌∙◌, subst}
 use Rattle.std.proofs.lemmas.Result.{err_from_is_err_and}
-use Rattle.pbs_engine.specs.Checks.{IsCheck}
 use Rattle.pbs_engine.specs.Stages.{view_given, AreProofsOf, IsRosterOf}
 use Rattle.pbs_engine.proofs.CheckLaws.{ends_at_given, ends_at_month, ends_at_proofs, ends_at_text, ends_at_roster, judged}
 use Rattle.pbs_engine.proofs.check.check.Goals as goal

@@ -1,4 +1,4 @@
-use Rattle.std.proofs.Common.{◌≡◌, ℕ, List, Result, refl, subst, Err, Ok}
+use Rattle.std.proofs.Common.{◌≡◌, List, Result, refl, subst, Ok}
 use Rattle.bid_language.specs.Sheets.{FailsBy}
 use Rattle.bid_language.specs.declared.fault.BidFault.{BidFault}
 use Rattle.roster_model.specs.declared.bid.Bid.{Bid}

@@ -1,4 +1,4 @@
-use Rattle.std.proofs.Common.{◌≡◌, ℕ, List, Result, refl, subst, Err}
+use Rattle.std.proofs.Common.{◌≡◌, List, Result, refl, subst}
 use Rattle.duty_calendar.specs.declared.member.Member.{Member}
 use Rattle.field_text.specs.Rows.{Fails}
 use Rattle.field_text.specs.declared.file_fault.FileFault.{FileFault}

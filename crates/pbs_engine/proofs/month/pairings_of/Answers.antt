@@ -1,13 +1,11 @@
-use Rattle.std.proofs.Common.{◌≡◌, ℕ, List, Result, refl, subst, Err}
+use Rattle.std.proofs.Common.{◌≡◌, List, Result, refl, subst}
 use Rattle.field_text.specs.Rows.{Fails}
 use Rattle.field_text.specs.declared.file_fault.FileFault.{FileFault}
 use Rattle.duty_calendar.specs.declared.pairing.Pairing.{Pairing}
 use Rattle.pairing_files.specs.Files.{pairings_of}
 use Rattle.pbs_engine.specs.declared.stop.InputFault.TheVariants as input
-use Rattle.pbs_engine.specs.declared.stop.Stop.{Stop}
 use Rattle.pbs_engine.specs.Months.{GivesPairings}
 use Rattle.pbs_engine.specs.Reading.{view_texts}
-use Rattle.pbs_engine.specs.Stages.{Ends}
 use Rattle.pbs_engine.proofs.Ends.{file_end}
 use Rattle.pbs_engine.proofs.month.pairings_of.Goals as goal
 

@@ -1,4 +1,4 @@
-use Rattle.std.proofs.Common.{◌≡◌, take}
+use Rattle.std.proofs.Common.{take}
 use Rattle.std.specs.Prelude.{All, IsTrue}
 use Rattle.duty_calendar.specs.Forms.{is_name}
 use Rattle.pbs_engine.proofs.roster.names_hold.Given as goal

@@ -1,5 +1,5 @@
-use Rattle.std.proofs.Common.{◌≡◌, ◌+◌, ◌<◌, ◌≤◌, ℕ, List, [], ◌∷◌, ◌++◌, Bool, true, false, Option, Some, None, sym, ap, subst, ◌∙◌, length, arith}
-use Rattle.pbs_engine.specs.RosterReading.{name_at, names_at}
+use Rattle.std.proofs.Common.{◌≡◌, ℕ, List, [], ◌∷◌, ◌++◌, Bool, true, false, Some, sym, ap, ◌∙◌, length, arith}
+use Rattle.pbs_engine.specs.RosterReading.{name_at}
 use Rattle.pbs_engine.proofs.Several.{pushed}
 use Rattle.pbs_engine.proofs.RosterLaws.{names_skip, names_more_of, names_last, names_end}
 use Rattle.pbs_engine.proofs.roster.names_of.Goals as goal

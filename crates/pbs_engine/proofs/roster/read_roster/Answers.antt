@@ -1,4 +1,4 @@
-use Rattle.std.proofs.Common.{◌≡◌, ap, subst, ◌∙◌}
+use Rattle.std.proofs.Common.{ap, subst, ◌∙◌}
 use Rattle.pbs_engine.specs.CertificateReading.{Gives}
 use Rattle.pbs_engine.specs.RosterReading.{roster_of}
 use Rattle.pbs_engine.proofs.RosterLaws.{roster_found, roster_again}

@@ -1,4 +1,4 @@
-use Rattle.std.proofs.Common.{◌≡◌, ◌++◌, ◌∷◌, [], ap, refl, ◌∙◌, List, ℕ, get_or, decimal}
+use Rattle.std.proofs.Common.{◌++◌, ap, refl, ◌∙◌, List, ℕ, get_or, decimal}
 use Rattle.pbs_engine.proofs.Texts.{numbers_more}
 use Rattle.pbs_engine.proofs.text.put_numbers.Goals as goal
 
