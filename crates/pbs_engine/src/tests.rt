@@ -2,9 +2,13 @@
 
 mod months;
 
+use crate::month::read_month;
+use crate::reading::read_texts;
 use crate::{Status, run};
-use duty_calendar::List;
+use bid_language::print_bids;
+use duty_calendar::{Copied, List};
 use months::*;
+use roster_model::{Line, Problem};
 use shelf::{MemoryShelf, MemorySink};
 use std::alloc::Global;
 use std::process::Abort;
@@ -103,6 +107,7 @@ fn a_month_is_checked(rt: HostRuntime) -> Result<(), Fail> {
 fn the_first_fault_is_named(rt: HostRuntime) -> Result<(), Fail> {
     let alloc = rt.alloc();
     assert_rows(&rt, alloc, &BAD_BIDS, Status::BadInput)?;
+    assert_rows(&rt, alloc, &WORSE_BIDS, Status::BadInput)?;
     assert_rows(&rt, alloc, &BAD_FILES, Status::BadInput)?;
     for (changed, text) in [
         (NO_DUTY.as_slice(), "bad pairings.csv 2 11\n"),
@@ -277,5 +282,66 @@ fn words_are_a_command(rt: HostRuntime) -> Result<(), Fail> {
     }
     let outcome = outcome_of(&rt, rt.alloc(), &["check"], &SMALLEST, &[], (&[], &[1]))?;
     assert_ends(&rt, &outcome, Status::WriteFault, "");
+    Ok(())
+}
+
+/// Says what `check` prints where the one member has so many bids of weight 1.
+fn assert_bids(
+    rt: &impl Abort,
+    alloc: Global,
+    bids: u32,
+    status: Status,
+    text: &str,
+) -> Result<(), Fail> {
+    let mut lines = String::from_str(alloc, "member M1\n")?;
+    for _bid in 0..bids {
+        lines.push_str("1 fly P1\n")?;
+    }
+    let roster = format!(in alloc; "member,pairings,credit,score\nM1,P1,5:00,{bids}\n")?;
+    let changed = [
+        ("bids.txt", lines.as_bytes()),
+        ("roster.csv", roster.as_bytes()),
+    ];
+    assert_checks(rt, alloc, &changed, status, text)
+}
+
+#[test]
+fn sixty_four_bids_are_read(rt: HostRuntime) -> Result<(), Fail> {
+    let alloc = rt.alloc();
+    assert_bids(&rt, alloc, 64, Status::Done, "yes\nvector 64\n")?;
+    assert_bids(&rt, alloc, 65, Status::BadInput, "bad bids.txt 66 1 8\n")
+}
+
+/// The smallest month with these bids.
+fn month_with(rt: &impl Abort, alloc: Global, bids: &[u8]) -> Result<Problem, Fail> {
+    let mut shelf = MemoryShelf::new(alloc, List::new(alloc));
+    place_all(rt, alloc, &mut shelf, &SMALLEST)?;
+    place_all(rt, alloc, &mut shelf, &[("bids.txt", bids)])?;
+    let texts = read_texts(alloc, &mut shelf)
+        .ok()
+        .expect(rt, "the files are there");
+    Ok(
+        read_month(alloc, &texts)
+            .ok()
+            .expect(rt, "the files have no fault"),
+    )
+}
+
+#[test]
+fn bids_are_printed(rt: HostRuntime) -> Result<(), Fail> {
+    let alloc = rt.alloc();
+    for (bids, text) in &PRINTED {
+        let problem = month_with(&rt, alloc, bids)?;
+        let printed = print_bids(alloc, &problem)?;
+        assert_eq!(rt; printed.as_slice(), *text);
+    }
+    Ok(())
+}
+
+#[test]
+fn a_line_is_copied(rt: HostRuntime) -> Result<(), Fail> {
+    let alloc = rt.alloc();
+    let line = Line::new(List::from_vec([2, 3, 5].to_vec(alloc)?)).expect(&rt, "it ascends");
+    assert_eq!(rt; line.copy(alloc)?, line);
     Ok(())
 }

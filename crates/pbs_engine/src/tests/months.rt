@@ -317,6 +317,129 @@ pub const BAD_BIDS: [Row; 11] = [
     ),
 ];
 
+/// Further bids with a fault: ends of ranges, bytes that are none of a token, and each word that may be wanted.
+pub const WORSE_BIDS: [Row; 29] = [
+    (
+        "bids.txt",
+        b"member M1\r\n1001 fly P1\r\n",
+        "bad bids.txt 2 1 7\n",
+    ),
+    (
+        "bids.txt",
+        b"member M1\n10 off 2026-07-01",
+        "bad bids.txt 2 8 4\n",
+    ),
+    (
+        "bids.txt",
+        b"member M1\n10 off 2026-05-31",
+        "bad bids.txt 2 8 4\n",
+    ),
+    (
+        "bids.txt",
+        b"member M1\n10 off 2026-06-03 to 2026-06-02",
+        "bad bids.txt 2 22 4\n",
+    ),
+    (
+        "bids.txt",
+        b"member M1\n4294967296 fly P1",
+        "bad bids.txt 2 1 3\n",
+    ),
+    ("bids.txt", b"member M1\n010 fly P1", "bad bids.txt 2 1 3\n"),
+    (
+        "bids.txt",
+        b"member M1\n10 prefer 0 days 1",
+        "bad bids.txt 2 11 3\n",
+    ),
+    (
+        "bids.txt",
+        b"member M1\n10 prefer 601 days 1",
+        "bad bids.txt 2 11 3\n",
+    ),
+    (
+        "bids.txt",
+        b"member M1\n10 avoid days 41",
+        "bad bids.txt 2 15 3\n",
+    ),
+    (
+        "bids.txt",
+        b"member M1\n10 daysoff 32",
+        "bad bids.txt 2 12 3\n",
+    ),
+    (
+        "bids.txt",
+        b"member M1\n10 credit below 1000:00",
+        "bad bids.txt 2 17 3\n",
+    ),
+    ("bids.txt", b"member M1\r10 fly P1", "bad bids.txt 1 10 1\n"),
+    ("bids.txt", b"member M1\n\x7f", "bad bids.txt 2 1 1\n"),
+    ("bids.txt", b"\xef\xbb\xbfmember M1", "bad bids.txt 1 1 1\n"),
+    (
+        "bids.txt",
+        b"member M1\n1 avoid days 1 and days 1 and days 1 and days 1 and days 1 and days 1 and days 1 and days 1 and fly",
+        "bad bids.txt 2 97 2\n",
+    ),
+    ("bids.txt", b" fly P1", "bad bids.txt 1 2 2\n"),
+    ("bids.txt", b"member # M1", "bad bids.txt 1 8 2\n"),
+    ("bids.txt", b"member a.b", "bad bids.txt 1 8 2\n"),
+    ("bids.txt", b"member M1 10", "bad bids.txt 1 11 2\n"),
+    ("bids.txt", b"member M1\n10", "bad bids.txt 2 3 2\n"),
+    (
+        "bids.txt",
+        b"member M1\n10 flies P1",
+        "bad bids.txt 2 4 2\n",
+    ),
+    (
+        "bids.txt",
+        b"member M1\n10 avoid not",
+        "bad bids.txt 2 13 2\n",
+    ),
+    (
+        "bids.txt",
+        b"member M1\n10 avoid report at 08:00",
+        "bad bids.txt 2 17 2\n",
+    ),
+    (
+        "bids.txt",
+        b"member M1\n10 avoid layover ORDX",
+        "bad bids.txt 2 18 2\n",
+    ),
+    (
+        "bids.txt",
+        b"member M1\n10 avoid weekday Mon",
+        "bad bids.txt 2 18 2\n",
+    ),
+    (
+        "bids.txt",
+        b"member M1\n10 credit at 10:00",
+        "bad bids.txt 2 11 2\n",
+    ),
+    (
+        "bids.txt",
+        b"member M1\n10 daysoff  ",
+        "bad bids.txt 2 13 2\n",
+    ),
+    (
+        "bids.txt",
+        b"member M1\n10 off 2026-06-01 2026-06-02",
+        "bad bids.txt 2 19 2\n",
+    ),
+    (
+        "bids.txt",
+        b"member M1\n10 avoid days 1 or days 2",
+        "bad bids.txt 2 17 2\n",
+    ),
+];
+
+/// Bids, and how they are printed.
+pub const PRINTED: [(&[u8], &[u8]); 3] = [
+    (b"member M1\n10 fly P1\n", b"member M1\n10 fly P1\n"),
+    (b"# none\n", b""),
+    (
+        b"\nmember M1\r\n\r\n\t1000 off 2026-06-30\n1 daysoff 0 \n7  off 2026-06-03 to 2026-06-07\n7 off 2026-06-09 to 2026-06-09\n3 prefer 2 not layover ORD and report before 08:05 and days 40\n1 credit below 5:07# no\n2 avoid release after 23:59 and weekday MON and pairing P1 and arrives LHR",
+        b"member M1\n1000 off 2026-06-30\n1 daysoff 0\n7 off 2026-06-03 to 2026-06-07\n7 off 2026-06-09\n3 prefer 2 not layover ORD and report before 08:05 and days 40\n1 credit below 5:07\n2 avoid release after 23:59 and weekday MON and pairing P1 and arrives LHR\n",
+    ),
+];
+
 /// Files of each kind with a fault of each code.
 pub const BAD_FILES: [Row; 22] = [
     ("rules.toml", b"base: DUB\n", "bad rules.toml 1\n"),
