@@ -8,3 +8,4 @@ pub mod Texts
 pub mod CheckLaws
 pub mod Ends
 pub mod Standing
+pub mod Rows

@@ -13,3 +13,4 @@ pub mod Stages
 pub mod Answers
 pub mod Runs
 pub mod Headline
+pub mod StatusRows

@@ -6,6 +6,7 @@ ghost use Rattle.pbs_engine.specs.declared.status.Status.TheVariants.{Done};
 ghost use Rattle.pbs_engine.specs.Headline.{AwardStands, yes_text};
 ghost use Rattle.pbs_engine.specs.declared.answer.Answer.{Answer as Reply};
 ghost use Rattle.pbs_engine.specs.Runs.{Answers, Said, RunCause};
+ghost use Rattle.pbs_engine.specs.StatusRows.{RunRow};
 
 use crate::answer::Answer;
 use crate::check::check;
@@ -49,6 +50,8 @@ pub fn run<S: Shelf, O: Sink>(alloc: Global, words: &[String], shelf: &mut S, ou
     ensures answered { (a : Reply)
         × Answers (map string_bytes words.now) (S.holds shelf.old) (S.tally shelf.old) (S.tally shelf.new) a
         × Said a (O.faults out.old) (O.faults out.new) (O.bytes out.old) (O.bytes out.new) result }
+    ensures rows { (files : Told) → S.holds shelf.old ≡ Some files
+        → RunRow (map string_bytes words.now) files (O.bytes out.old) (O.bytes out.new) result }
     ensures stands { (files : Told) → S.holds shelf.old ≡ Some files → result ≡ Done
         → (scores : Sequence ℕ) × AwardStands files scores × (O.bytes out.new ≡ with_piece (O.bytes out.old) (yes_text scores)) }
     ensures kept { S.holds shelf.new ≡ S.holds shelf.old }
