@@ -1,6 +1,7 @@
 -- The rows keep the checks of the month's members.
 use Rattle.std.proofs.Common.{◌≡◌, ◌≢◌, ℕ, suc, ◌<◌, ◌≤◌, List, [], ◌∷◌, ◌++◌, length, Bool, true, false, not, cond, ◌&&◌, ◌||◌, nat_le, nat_lt, ◌==◌, Result, Ok, Err, refl, sym, ap, subst, ◌∙◌, arith, length-append, All, AllPairs, slice_index_or, true≢false}
 use Rattle.std.specs.List.{list_all, list_any}
+use Rattle.std.specs.Prelude.{IsTrue}
 use Rattle.std.specs.Str.{is_utf8, bytes_eq}
 use Rattle.std.specs.Cmp.Lexicographic.{bytes_decides}
 use Rattle.std.proofs.lemmas.Bool.Decides.{nat_tests}
@@ -9,6 +10,7 @@ use Rattle.std.proofs.lemmas.List.Kept.{AllPairs-cons}
 use Rattle.std.proofs.lemmas.List.Quantifiers.{all_pairs_push}
 use Rattle.duty_calendar.specs.Calendar.{month_end}
 use Rattle.duty_calendar.specs.Checks.{IsMember, AreMembers}
+use Rattle.duty_calendar.specs.Forms.{is_name}
 use Rattle.duty_calendar.specs.declared.event.Event.{Event}
 use Rattle.duty_calendar.specs.declared.event.Flown.{Flown}
 use Rattle.duty_calendar.specs.declared.event.Kind.{Kind}
@@ -20,6 +22,7 @@ use Rattle.field_text.specs.declared.file_fault.FileName.TheVariants as name
 use Rattle.field_text.specs.Fields.{name_field, minutes_field, moment_field}
 use Rattle.field_text.specs.Rows.{in_column}
 use Rattle.field_text.specs.Steps.{◌>>=◌}
+use Rattle.field_text.proofs.FieldsAgain.{name-read}
 use Rattle.crew_files.specs.declared.part.Part.{Part}
 use Rattle.crew_files.specs.declared.part.Part.TheVariants.{History, Fixed}
 use Rattle.crew_files.specs.Rows.{text_row}
@@ -64,10 +67,10 @@ crew_row-keep h ms ns fields p e =
     let a = bind-value (in_column 1 (name_field (slice_index_or fields 0 []))) (λ (n : List ℕ). in_column 2 (minutes_field (slice_index_or fields 1 [])) >>= (λ (l : ℕ). in_column 3 (minutes_field (slice_index_or fields 2 [])) >>= (λ (u : ℕ). member_checked ms n l u))) ns columns in
     let b = bind-value (in_column 2 (minutes_field (slice_index_or fields 1 []))) (λ (l : ℕ). in_column 3 (minutes_field (slice_index_or fields 2 [])) >>= (λ (u : ℕ). member_checked ms a.0 l u)) ns a.2 in
     let c = bind-value (in_column 3 (minutes_field (slice_index_or fields 2 []))) (λ (u : ℕ). member_checked ms a.0 b.0 u) ns b.2 in
-    added a.0 b.0 c.0 c.2
+    added a.0 b.0 c.0 (name-read (slice_index_or fields 0 []) a.0 (in_column-value 1 (name_field (slice_index_or fields 0 [])) a.0 a.1)) c.2
   where
-    added : (n : List ℕ) (l u : ℕ) → member_checked ms n l u ≡ Ok ns → AreRead (IsPast h) ns
-    added n l u e =
+    added : (n : List ℕ) (l u : ℕ) → IsTrue (is_name n) → member_checked ms n l u ≡ Ok ns → AreRead (IsPast h) ns
+    added n l u k e =
         let d = unless-value (is_named n ms) code.Duplicate _ ns e in
         let o = unless-value (nat_lt u l) code.Order _ ns d.1 in
         let f = unless-value (nat_le 200 (length ms)) (code.Limit 1) _ ns o.1 in
@@ -79,7 +82,7 @@ crew_row-keep h ms ns fields p e =
         let named = not_named n ms d.0 in
         subst (AreRead (IsPast h)) same (record {
           few = omega (arith, length-append ms (new_member n l u ∷ []));
-          each = All-push (IsPast h) ms (new_member n l u) p.each (record { read = new_member-read h n l u low high; none = refl });
+          each = All-push (IsPast h) ms (new_member n l u) p.each (record { read = new_member-read h n l u k low high; none = refl });
           names = all_pairs_push (λ (a b : Member). a.name ≢ b.name) ms (new_member n l u) p.names (λ k d l. named k d l);
         })
 

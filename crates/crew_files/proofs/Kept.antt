@@ -1,5 +1,6 @@
 -- What the rows keep of the members: the checks of the month's members.
 use Rattle.std.proofs.Common.{◌≡◌, ℕ, suc, ◌<◌, ◌≤◌, List, [], ◌∷◌, ◌++◌, length, Bool, true, false, cond, ◌&&◌, nat_le, nat_lt, ◌==◌, fold, refl, sym, ap, subst, ◌∙◌, arith, append_assoc, length-append, All, AllPairs}
+use Rattle.std.specs.Prelude.{IsTrue}
 use Rattle.std.proofs.lemmas.Bool.{eqb-true}
 use Rattle.std.proofs.lemmas.Bool.Decides.{nat_tests}
 use Rattle.std.proofs.lemmas.List.{append-nil}
@@ -8,6 +9,7 @@ use Rattle.std.proofs.lemmas.List.Kept.{AllPairs-cons}
 use Rattle.std.proofs.lemmas.List.Quantifiers.{all_pairs_push}
 use Rattle.duty_calendar.specs.Calendar.{month_end, horizon_end}
 use Rattle.duty_calendar.specs.Checks.{IsFiled, IsMember}
+use Rattle.duty_calendar.specs.Forms.{is_name}
 use Rattle.duty_calendar.specs.Minutes.{is_flight}
 use Rattle.duty_calendar.specs.declared.event.Event.{Event}
 use Rattle.duty_calendar.specs.declared.event.Flown.{Flown}
@@ -71,6 +73,7 @@ in_order-push es e h after lasts = record {
 
 -- what is kept of a member while events are added
 pub record IsRead (h : Horizon) (m : Member) : Type 0 where
+  pub named : IsTrue (is_name m.name)
   pub window : m.low ≤ m.high
   pub few_credit : m.high ≤ 12000
   pub few_history : length m.history ≤ 500
@@ -83,6 +86,7 @@ pub record IsRead (h : Horizon) (m : Member) : Type 0 where
 
 pub member-from_read : (h : Horizon) (m : Member) → IsRead h m → IsMember h m
 member-from_read h m r = record {
+  named = r.named;
   window = r.window;
   few_credit = r.few_credit;
   few_history = r.few_history;
@@ -94,8 +98,9 @@ member-from_read h m r = record {
   in_order = r.order.pairs;
 }
 
-pub new_member-read : (h : Horizon) (name : List ℕ) (low high : ℕ) → low ≤ high → high ≤ 12000 → IsRead h (new_member name low high)
-new_member-read h name low high w c = record {
+pub new_member-read : (h : Horizon) (name : List ℕ) (low high : ℕ) → IsTrue (is_name name) → low ≤ high → high ≤ 12000 → IsRead h (new_member name low high)
+new_member-read h name low high n w c = record {
+  named = n;
   window = w;
   few_credit = c;
   few_history = omega arith;
@@ -165,6 +170,7 @@ filed h e v times flights few credit =
 -- one more event of a member is kept
 pub with_event-fixed : (h : Horizon) (e : Event) (m : Member) → IsRead h m → IsFiled h e → last_release (m.history ++ m.fixed) ≤ e.report → 525600 ≤ e.report → e.report < month_end h → length m.fixed < 60 → IsRead h (with_event Fixed e m)
 with_event-fixed h e m r f after from till few = record {
+  named = r.named;
   window = r.window;
   few_credit = r.few_credit;
   few_history = r.few_history;
@@ -181,6 +187,7 @@ with_event-history h e m r none f after before few =
     let bare : m.history ++ m.fixed ≡ m.history = ap (λ (es : List Event). m.history ++ es) none ∙ append-nil m.history in
     let grown : (m.history ++ e ∷ []) ++ m.fixed ≡ m.history ++ e ∷ [] = ap (λ (es : List Event). (m.history ++ e ∷ []) ++ es) none ∙ append-nil (m.history ++ e ∷ []) in
     record {
+      named = r.named;
       window = r.window;
       few_credit = r.few_credit;
       few_history = omega (arith, length-append m.history (e ∷ []));

@@ -14,3 +14,8 @@ pub mod InRow
 pub mod HeaderSteps
 pub mod Puts
 pub mod Placed
+pub mod Walks
+pub mod Lines
+pub mod FlightsAgain
+pub mod EventAgain
+pub mod MembersAgain

@@ -95,6 +95,7 @@ fn read_rows(alloc: Global, crew: &mut Crew, records: &mut Records<'_>) -> Resul
     requires few { length records.old ≤ longest }
     ensures ok { OnOk result (rows_from file.Crew crew_row 2 crew.old records.old ≡ Ok crew.new) }
     ensures err { IfErr result (λ e. Fails e.code e (rows_from file.Crew crew_row 2 crew.old records.old)) }
+    ensures no_row { IfErr result (λ e. e.code ≡ NoMemory → e.row ≡ 0) }
 {
     let mut row = 2;
     'rows: while let Some(record) = next(alloc, FileName::Crew, records)? {
@@ -127,6 +128,7 @@ pub fn read_crew(alloc: Global, text: &[u8], crew: &mut Crew) -> Result<(), File
     requires short { length text.now ≤ longest }
     ensures ok { OnOk result (crew_file text.now crew.old ≡ Ok crew.new) }
     ensures err { IfErr result (λ e. Fails e.code e (crew_file text.now crew.old)) }
+    ensures no_row { IfErr result (λ e. e.code ≡ NoMemory → e.row ≡ 0) }
 {
     let mut records = Records::new(alloc, text);
     let Some(header) = next(alloc, FileName::Crew, &mut records)? else {

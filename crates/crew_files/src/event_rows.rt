@@ -277,6 +277,7 @@ fn read_rows(
     requires few { length records.old ≤ longest }
     ensures ok { OnOk result (rows_from (file_name part) (event_row horizon.now part) 2 crew.old records.old ≡ Ok crew.new) }
     ensures err { IfErr result (λ e. Fails e.code e (rows_from (file_name part) (event_row horizon.now part) 2 crew.old records.old)) }
+    ensures no_row { IfErr result (λ e. e.code ≡ NoMemory → e.row ≡ 0) }
 {
     let file = file_name(part);
     let mut row = 2;
@@ -328,6 +329,7 @@ pub fn read_events(
     requires short { length text.now ≤ longest }
     ensures ok { OnOk result (event_file horizon.now part text.now crew.old ≡ Ok crew.new) }
     ensures err { IfErr result (λ e. Fails e.code e (event_file horizon.now part text.now crew.old)) }
+    ensures no_row { IfErr result (λ e. e.code ≡ NoMemory → e.row ≡ 0) }
 {
     let file = file_name(part);
     let mut records = Records::new(alloc, text);

@@ -3,6 +3,7 @@ ghost use Rattle.std.specs.Prelude.{◌≡◌, ◌≤◌, length, [], Ok, IfOk, 
 ghost use Rattle.duty_calendar.specs.Checks.{AreMembers};
 ghost use Rattle.field_text.specs.Sizes.{longest};
 ghost use Rattle.field_text.specs.Rows.{Fails, Gives};
+ghost use Rattle.field_text.specs.declared.file_fault.FileCode.TheVariants.{NoMemory};
 ghost use Rattle.crew_files.specs.Files.{members_of};
 
 use crate::crew::Crew;
@@ -29,6 +30,7 @@ fn read_all(
     requires none { members.old ≡ [] }
     ensures ok { OnOk result (members_of horizon.now crew.now history.now fixed.now ≡ Ok members.new) }
     ensures err { IfErr result (λ e. Fails e.code e (members_of horizon.now crew.now history.now fixed.now)) }
+    ensures no_row { IfErr result (λ e. e.code ≡ NoMemory → e.row ≡ 0) }
 {
     read_crew(alloc, crew, members)?;
     read_events(alloc, history, members, Part::History, horizon)?;
@@ -53,6 +55,7 @@ pub fn read_members(
     requires fixed_short { length fixed.now ≤ longest }
     ensures value { Gives (λ list. list) result (members_of horizon.now crew.now history.now fixed.now) }
     ensures valid { IfOk result (λ list. AreMembers horizon.now list) }
+    ensures no_row { IfErr result (λ e. e.code ≡ NoMemory → e.row ≡ 0) }
 {
     let mut members = Crew::new(alloc);
     read_all(alloc, crew, history, fixed, horizon, &mut members)?;

@@ -25,7 +25,7 @@ pub fn in_column<T>(column: u32, read: Result<T, FieldFault>) -> Result<T, FileC
 pub fn at_row(file: FileName, row: u32, code: FileCode) -> FileFault
     ensures code { result.code ≡ code }
     ensures value { code ≢ NoMemory → result ≡ record { file = file; row = row; code = code } }
-    ensures memory { code ≡ NoMemory → result.row ≡ 0 }
+    ensures no_row { result.code ≡ NoMemory → result.row ≡ 0 }
 {
     if matches!(code, FileCode::NoMemory) {
         return FileFault { file, row: 0, code };
@@ -42,6 +42,7 @@ pub fn next(
     ensures next { IfOk result (λ next. MatchOption next (records.old ≡ []) (λ row. records.old ≡ fields_of row ∷ records.new)) }
     ensures short { IfOk result (λ next. IfSome next (λ row. AreWithin longest (fields_of row))) }
     ensures memory { IfErr result (λ e. e.code ≡ NoMemory) }
+    ensures no_row { IfErr result (λ e. e.row ≡ 0) }
 {
     match records.read(alloc) {
         Ok(next) => Ok(next),

@@ -1,8 +1,10 @@
 //! Writing the three files of members.
-ghost use Rattle.std.specs.Prelude.{◌≡◌, ◌≤◌, ◌++◌, ◌∷◌, [], All, OnOk, IfOk};
+ghost use Rattle.std.specs.Prelude.{◌≡◌, ◌≤◌, ◌++◌, ◌∷◌, [], All, Ok, OnOk, IfOk};
 ghost use Rattle.field_text.specs.Spelling.{minutes_text};
 ghost use Rattle.duty_calendar.specs.Calendar.{horizon_end};
+ghost use Rattle.duty_calendar.specs.Checks.{AreMembers};
 ghost use Rattle.crew_files.specs.declared.part.Part.TheVariants.{History, Fixed};
+ghost use Rattle.crew_files.specs.Files.{members_of};
 ghost use Rattle.crew_files.specs.Texts.{line, crew_fields, kind_text, times_fields, flight_text, flights_text, event_fields, crew_text, events_of_member, events_text, EndsWithin, LiesWithin};
 ghost use Rattle.std.specs.List.{flat_map};
 
@@ -190,6 +192,7 @@ pub fn put_members(alloc: Global, list: &[Member], horizon: &Horizon) -> Result<
     ensures crew { IfOk result (λ texts. texts.crew ≡ crew_text list.now) }
     ensures history { IfOk result (λ texts. texts.history ≡ events_text horizon.now History list.now) }
     ensures fixed { IfOk result (λ texts. texts.fixed ≡ events_text horizon.now Fixed list.now) }
+    ensures again { IfOk result (λ texts. AreMembers horizon.now list.now → members_of horizon.now texts.crew texts.history texts.fixed ≡ Ok list.now) }
 {
     let crew = put_crew(alloc, list)?;
     let history = put_part(alloc, list, Part::History, horizon)?;

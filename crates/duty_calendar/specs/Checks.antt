@@ -10,7 +10,7 @@ use Rattle.duty_calendar.specs.declared.pairing.Duty.{Duty}
 use Rattle.duty_calendar.specs.declared.pairing.Pairing.{Pairing}
 use Rattle.duty_calendar.specs.Calendar.{month_end, horizon_end}
 use Rattle.duty_calendar.specs.Events.{IsEvent}
-use Rattle.duty_calendar.specs.Forms.{is_seat}
+use Rattle.duty_calendar.specs.Forms.{is_name, is_seat, is_station_code}
 use Rattle.duty_calendar.specs.Minutes.{is_flight}
 
 -- the seat is 1 to 8 capital letters or digits, and at most 31 days off are due
@@ -18,7 +18,7 @@ pub record IsRules (r : Rules) : Type 0 where
   pub seat : IsTrue (is_seat r.seat)
   pub days_off : r.days_off ≤ 31
 
--- the times of a duty and of its legs are in order
+-- the times of a duty and of its legs are in order, and its stations have the form of one
 pub record IsDuty (d : Duty) : Type 0 where
   pub reported : d.report ≤ d.parked
   pub parked : d.parked ≤ d.release
@@ -27,10 +27,13 @@ pub record IsDuty (d : Duty) : Type 0 where
   pub few_legs : length d.legs ≤ 8
   pub legs : All (λ l. (d.report ≤ l.flown.out_at) × (l.flown.out_at < l.flown.in_at) × (l.flown.in_at ≤ d.parked)) d.legs
   pub in_order : AllPairs (λ k l. k.flown.in_at ≤ l.flown.out_at) d.legs
+  pub stations : All (λ l. IsTrue (is_station_code l.from) × IsTrue (is_station_code l.to)) d.legs
+  pub stays : ForSome d.layover (λ s. IsTrue (is_station_code s))
 
 -- the first duty begins in the month, ten hours lie between a release and the next report, and nothing ends
 -- after the horizon
 pub record IsPairing (h : Horizon) (p : Pairing) : Type 0 where
+  pub named : IsTrue (is_name p.name)
   pub some_need : 1 ≤ p.need
   pub few_need : p.need ≤ 9
   pub few_credit : p.credit ≤ 12000
@@ -53,6 +56,7 @@ pub record IsFiled (h : Horizon) (e : Event) : Type 0 where
 -- history begins before the month and fixed events begin in it; all of them stand in order, none before the last
 -- one's release
 pub record IsMember (h : Horizon) (m : Member) : Type 0 where
+  pub named : IsTrue (is_name m.name)
   pub window : m.low ≤ m.high
   pub few_credit : m.high ≤ 12000
   pub few_history : length m.history ≤ 500

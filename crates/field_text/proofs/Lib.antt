@@ -13,4 +13,7 @@ pub mod Days
 pub mod Moments
 pub mod Walk
 pub mod Utc
+pub mod MomentAgain
+pub mod FieldsAgain
 pub mod ColumnLaws
+pub mod CleanLines

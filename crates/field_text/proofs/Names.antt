@@ -6,18 +6,18 @@ use Rattle.field_text.specs.declared.form.Class.TheVariants.{NameByte}
 use Rattle.field_text.specs.Form.{finished, up_to, fault_from, is_in}
 use Rattle.field_text.specs.Fields.{name}
 
-right : (n k b : ℕ) (bs : List ℕ) → is_in NameByte b ≡ true → fault_from n (up_to (suc k) NameByte finished) (b ∷ bs) ≡ fault_from (n + 1) (up_to k NameByte finished) bs
+pub name-right : (n k b : ℕ) (bs : List ℕ) → is_in NameByte b ≡ true → fault_from n (up_to (suc k) NameByte finished) (b ∷ bs) ≡ fault_from (n + 1) (up_to k NameByte finished) bs
 unfolding fault_from
-right n k b bs h = rw h refl
+name-right n k b bs h = rw h refl
 
-wrong : (n k b : ℕ) (bs : List ℕ) → is_in NameByte b ≡ false → fault_from n (up_to k NameByte finished) (b ∷ bs) ≡ Some n
+pub name-wrong : (n k b : ℕ) (bs : List ℕ) → is_in NameByte b ≡ false → fault_from n (up_to k NameByte finished) (b ∷ bs) ≡ Some n
 unfolding fault_from
-wrong n zero b bs h = refl
-wrong n (suc k) b bs h = rw h refl
+name-wrong n zero b bs h = refl
+name-wrong n (suc k) b bs h = rw h refl
 
-full : (n b : ℕ) (bs : List ℕ) → fault_from n (up_to 0 NameByte finished) (b ∷ bs) ≡ Some n
+pub name-past : (n b : ℕ) (bs : List ℕ) → fault_from n (up_to 0 NameByte finished) (b ∷ bs) ≡ Some n
 unfolding fault_from
-full n b bs = refl
+name-past n b bs = refl
 
 ends : (n k : ℕ) → fault_from n (up_to k NameByte finished) [] ≡ None
 unfolding fault_from
@@ -32,13 +32,13 @@ name-same (b ∷ bs) h = refl
 -- at a place of the text
 pub name-next : (n i k l : ℕ) (text : List ℕ) → k ≡ suc l → i < length text → is_in NameByte (get_or text i 0) ≡ true
     → fault_from n (up_to k NameByte finished) (drop i text) ≡ fault_from (n + 1) (up_to l NameByte finished) (drop (i + 1) text)
-name-next n i k l text e p h = rw (e, add-one i, drop-cons text i 0 p) (right n l (get_or text i 0) (drop (suc i) text) h)
+name-next n i k l text e p h = rw (e, add-one i, drop-cons text i 0 p) (name-right n l (get_or text i 0) (drop (suc i) text) h)
 
 pub name-stop : (n i k : ℕ) (text : List ℕ) → i < length text → is_in NameByte (get_or text i 0) ≡ false → fault_from n (up_to k NameByte finished) (drop i text) ≡ Some n
-name-stop n i k text p h = rw (drop-cons text i 0 p) (wrong n k (get_or text i 0) (drop (suc i) text) h)
+name-stop n i k text p h = rw (drop-cons text i 0 p) (name-wrong n k (get_or text i 0) (drop (suc i) text) h)
 
 pub name-full : (n i k : ℕ) (text : List ℕ) → k ≡ 0 → i < length text → fault_from n (up_to k NameByte finished) (drop i text) ≡ Some n
-name-full n i k text e p = rw (e, drop-cons text i 0 p) (full n (get_or text i 0) (drop (suc i) text))
+name-full n i k text e p = rw (e, drop-cons text i 0 p) (name-past n (get_or text i 0) (drop (suc i) text))
 
 pub name-end : (n i k : ℕ) (text : List ℕ) → length text ≤ i → fault_from n (up_to k NameByte finished) (drop i text) ≡ None
 name-end n i k text p = rw (drop_of_length-le text p) (ends n k)

@@ -1,5 +1,5 @@
 -- Base-local minutes as moments in UTC.
-use Rattle.std.proofs.Common.{◌≡◌, ℕ, ◌+◌, ◌*◌, ◌/◌, ◌%◌, ◌<◌, ◌≤◌, [], ◌∷◌, ◌++◌, length, Bool, true, false, Some, None, Ok, refl, arith, ap, sym, ◌∙◌, cond, ℤ, pos, negsuc, ◌+ℤ◌, ◌-ℤ◌, ◌*ℤ◌, ◌≤ℤ◌}
+use Rattle.std.proofs.Common.{◌≡◌, ℕ, ◌+◌, ◌*◌, ◌/◌, ◌%◌, ◌<◌, ◌≤◌, ◌++◌, length, Bool, true, false, Some, None, refl, arith, ap, cond, ℤ, pos, negsuc, ◌+ℤ◌, ◌-ℤ◌, ◌*ℤ◌, ◌≤ℤ◌}
 use Rattle.std.specs.Prelude.{nat_le, unsigned_abs, slice_range}
 use Rattle.jiff_core.specs.Calendar.{days_from_civil}
 use Rattle.jiff_core.specs.Date.{epoch_day}
@@ -8,15 +8,9 @@ use Rattle.jiff_core.proofs.SignedLemmas.{signed_arith}
 use Rattle.jiff_core.proofs.CalendarLemmas.{days_in_month_bounds}
 use Rattle.duty_calendar.specs.Calendar.{up_to, day_zero, horizon_end, local_minute, minute_at}
 use Rattle.duty_calendar.specs.declared.horizon.Horizon.{Horizon}
-use Rattle.field_text.specs.declared.form.Class.TheVariants.{Byte}
-use Rattle.field_text.specs.declared.field_fault.FieldFault.TheVariants.{OutsideHorizon}
-use Rattle.field_text.specs.Steps.{or_fault}
-use Rattle.field_text.specs.Fields.{clock, day, moment, moment_field}
 use Rattle.field_text.specs.Dates.{civil}
 use Rattle.field_text.specs.Spelling.{day_text, date_text, clock_text, moment_end, moment_text, utc_minute}
-use Rattle.field_text.proofs.RowForms.{row_none, row-join}
-use Rattle.field_text.proofs.Days.{pos-abs, day-from_civil, civil_at, day_text-row, day_text-value, clock_text-row, clock_text-value}
-use Rattle.field_text.proofs.Moments.{moment-on}
+use Rattle.field_text.proofs.Days.{pos-abs}
 use Rattle.field_text.proofs.Walk.{civil_of, civil-year, month_bounds}
 
 up_to-some : (limit k : ℕ) (z : ℤ) → up_to limit z ≡ Some k → z ≡ pos k
@@ -66,35 +60,14 @@ moment-spelt h minute date m l u =
     let year : unsigned_abs date.year ≡ (civil u.days).year = ap unsigned_abs c.0 in
     rw (d, r, year, c.1, c.2) refl
 
-day_part-of : (y n d m : ℕ) → slice_range (day_text y n d ++ moment_end m) 0 10 ≡ day_text y n d
+pub day_part-of : (y n d m : ℕ) → slice_range (day_text y n d ++ moment_end m) 0 10 ≡ day_text y n d
 unfolding day_text clock_text
 day_part-of y n d m = refl
 
-clock_part-of : (y n d m : ℕ) → slice_range (day_text y n d ++ moment_end m) 11 16 ≡ clock_text m
+pub clock_part-of : (y n d m : ℕ) → slice_range (day_text y n d ++ moment_end m) 11 16 ≡ clock_text m
 unfolding day_text clock_text
 clock_part-of y n d m = refl
 
-long-of : (y n d m : ℕ) → length (day_text y n d ++ moment_end m) ≡ 17
+pub long-of : (y n d m : ℕ) → length (day_text y n d ++ moment_end m) ≡ 17
 unfolding day_text clock_text
 long-of y n d m = refl
-
--- and is read as the minute
-pub moment-again : (h : Horizon) (minute : ℕ) (date : Date) (m : ℕ) → m < 1440 → minute_at h date m ≡ Some minute → AtUtc h minute date m → moment_field h (moment_text h minute) ≡ Ok minute
-moment-again h minute date m l e u =
-    let year = utc-year h minute date m u in
-    let y = pos-abs date.year year.0 in
-    let small : unsigned_abs date.year < 10000 = omega (arith, signed_arith, y, year.1) in
-    let valid = civil_at date.year (unsigned_abs date.year) date.month date.day y (date.year_in, date.month_in, date.day_in) in
-    let days : date.day < 100 = omega (arith, valid.2.1, (days_in_month_bounds (pos (unsigned_abs date.year)) date.month).0) in
-    let text = day_text (unsigned_abs date.year) date.month date.day ++ moment_end m in
-    let form = row-join day (Byte 84 ∷ clock ++ Byte 90 ∷ []) (day_text (unsigned_abs date.year) date.month date.day) (moment_end m)
-    (day_text-row (unsigned_abs date.year) date.month date.day small (omega arith) days)
-    (refl, row-join clock (Byte 90 ∷ []) (clock_text m) (90 ∷ []) (clock_text-row m l) (refl, tt)) in
-    let number : days_from_civil (pos (unsigned_abs date.year)) date.month date.day ≡ epoch_day date = ap (λ (z : ℤ). days_from_civil z date.month date.day) (sym y) in
-    let found = day_text-value (unsigned_abs date.year) date.month date.day small (omega arith) days (day-from_civil (unsigned_abs date.year) date.month date.day valid) in
-    ap (moment_field h) (moment-spelt h minute date m l u)
-    ∙ moment-on h text (clock_text m) (day_text (unsigned_abs date.year) date.month date.day) m (epoch_day date)
-    (omega (arith, long-of (unsigned_abs date.year) date.month date.day m)) (row_none 1 moment text form)
-    (sym (clock_part-of (unsigned_abs date.year) date.month date.day m)) (sym (day_part-of (unsigned_abs date.year) date.month date.day m))
-    (clock_text-value m l) (found ∙ ap Some number)
-    ∙ ap (or_fault OutsideHorizon) e

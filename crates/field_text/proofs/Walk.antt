@@ -12,10 +12,10 @@ use Rattle.jiff_core.proofs.DateLemmas.{days_from_civil-day, days_from_civil-nex
 use Rattle.field_text.specs.Dates.{Civil, civil, next_day}
 
 -- a date with its number
-record Numbered (c : Civil) (n : ℕ) : Type 0 where
-  month : IsInRange 1 12 c.month
-  day : IsInRange 1 (days_in_month (pos c.year) c.month) c.day
-  number : days_from_civil (pos c.year) c.month c.day ≡ pos n
+pub record Numbered (c : Civil) (n : ℕ) : Type 0 where
+  pub month : IsInRange 1 12 c.month
+  pub day : IsInRange 1 (days_in_month (pos c.year) c.month) c.day
+  pub number : days_from_civil (pos c.year) c.month c.day ≡ pos n
 
 next_in_month : (c : Civil) (n : ℕ) → Numbered c n → c.day < days_in_month (pos c.year) c.month → Numbered (record { year = c.year; month = c.month; day = c.day + 1 }) (suc n)
 next_in_month c n h l = record {
@@ -50,7 +50,7 @@ next_numbered c n h = go (nat_lt c.day (days_in_month (pos c.year) c.month)) ref
     go false p true q = next_month c n h (grind (arith, nat_tests, h.day)) (grind (arith, nat_tests))
     go false p false q = next_year c n h (grind (arith, nat_tests, h.day)) (grind (arith, nat_tests, h.month))
 
-civil_numbered : (n : ℕ) → Numbered (civil n) n
+pub civil_numbered : (n : ℕ) → Numbered (civil n) n
 unfolding civil days_from_civil
 civil_numbered zero = record { month = (omega arith, omega arith); day = (omega arith, omega arith); number = omega (arith, signed_arith) }
 civil_numbered (suc n) = next_numbered (civil n) n (civil_numbered n)

@@ -1,9 +1,13 @@
 //! Laws of the forms of fields and of the tokens of a line.
-ghost use Rattle.std.specs.Prelude.{◌≡◌, ◌↔◌, ℕ, ◌+◌, ◌∷◌, [], ◌++◌, List as Sequence, length, Some, None, Ok, IsTrue};
+ghost use Rattle.std.specs.Prelude.{◌≡◌, ◌↔◌, ℕ, ◌+◌, ◌<◌, ◌≤◌, ◌^◌, ◌∷◌, [], ◌++◌, List as Sequence, length, Some, None, Ok, IsTrue};
 ghost use Rattle.std.specs.List.{list_all};
+ghost use Rattle.duty_calendar.specs.Calendar.{horizon_end};
+ghost use Rattle.duty_calendar.specs.Forms.{is_name, is_station_code};
+ghost use Rattle.duty_calendar.specs.declared.horizon.Horizon.{Horizon};
 ghost use Rattle.field_text.specs.Form.{Form, fault_from, is_of};
 ghost use Rattle.field_text.specs.Columns.{StopsAt, is_live};
-ghost use Rattle.field_text.specs.Fields.{forms};
+ghost use Rattle.field_text.specs.Fields.{forms, number_field, minutes_field, moment_field, name_field, station_field};
+ghost use Rattle.field_text.specs.Spelling.{number_text, minutes_text, moment_text};
 ghost use Rattle.field_text.specs.Tokens.{is_graphic, tokens_from, ◌andthen◌};
 
 /// What the column of a fault of shape says of the texts of a form. Each part of the fields' forms can be gone on to
@@ -22,4 +26,13 @@ pub fn word_laws()
         → tokens_from None n ((b ∷ bs) ++ (32 ∷ rest)) ≡ (record { start = n; end = n + length (b ∷ bs) } ∷ []) andthen tokens_from None (n + length (b ∷ bs) + 1) rest }
     ensures last { (n b : ℕ) (bs : Sequence ℕ) → IsTrue (list_all is_graphic (b ∷ bs))
         → tokens_from None n (b ∷ bs) ≡ Ok (record { start = n; end = n + length (b ∷ bs) } ∷ []) }
+{}
+
+/// Each field reads as the value that it spells.
+pub fn field_laws()
+    ensures number { (n : ℕ) → n < 2 ^ 32 → number_field (number_text n) ≡ Ok n }
+    ensures minutes { (n : ℕ) → n < 60000 → minutes_field (minutes_text n) ≡ Ok n }
+    ensures moment { (h : Horizon) (n : ℕ) → n ≤ horizon_end h → moment_field h (moment_text h n) ≡ Ok n }
+    ensures name { (text : Sequence ℕ) → IsTrue (is_name text) → name_field text ≡ Ok text }
+    ensures station { (text : Sequence ℕ) → IsTrue (is_station_code text) → station_field text ≡ Ok text }
 {}

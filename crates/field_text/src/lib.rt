@@ -16,7 +16,7 @@ mod writing;
 pub use field_fault::FieldFault;
 pub use file_fault::{FileCode, FileFault, FileName};
 pub use form::Class;
-pub use laws::{column_laws, word_laws};
+pub use laws::{column_laws, field_laws, word_laws};
 pub use number::{read_minutes, read_number};
 pub use records::Records;
 pub use rows::{as_text, bytes_at, text_at};

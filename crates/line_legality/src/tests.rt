@@ -1,12 +1,13 @@
 //! A month of one member and one pairing, through each call.
-ghost use Rattle.std.specs.Prelude.{◌≡◌, ◌+◌, ◌<◌, ◌≤◌, ◌∷◌, [], ℕ, length, IfOk, IfSome};
+ghost use Rattle.std.specs.Prelude.{◌≡◌, ◌+◌, ◌<◌, ◌≤◌, ◌∷◌, [], ℕ, length, IfOk, IfSome, IsTrue};
 ghost use Rattle.duty_calendar.specs.Calendar.{month_days};
 ghost use Rattle.duty_calendar.specs.declared.horizon.Horizon.{Horizon as Month};
+ghost use Rattle.duty_calendar.specs.Forms.{is_name, is_station_code};
 ghost use Rattle.duty_calendar.specs.Checks.{IsDuty, IsRules, IsPairing, IsMember};
 
 use crate::{RosterFault, complete, legal};
 use duty_calendar::{
-    Base, Duty, Flown, Horizon, Leg, List, Member, Memory, Name, Pairing, Rules, Station,
+    Base, Duty, Flown, Horizon, Kind, Leg, List, Member, Memory, Name, Pairing, Rules, Station,
 };
 use roster_model::{Line, Problem, Roster, timeline};
 use std::alloc::Global;
@@ -24,6 +25,8 @@ fn one<T: Drop>(alloc: Global, item: T) -> Result<List<T>, Memory>
 
 /// A duty with one leg.
 fn duty(alloc: Global, from: Station, to: Station) -> Result<Duty, Memory>
+    requires from { IsTrue (is_station_code from) }
+    requires to { IsTrue (is_station_code to) }
     ensures form { IfOk result IsDuty }
     ensures report { IfOk result (λ d. d.report ≡ 528960) }
     ensures release { IfOk result (λ d. d.release ≡ 529350) }
@@ -43,6 +46,7 @@ fn duty(alloc: Global, from: Station, to: Station) -> Result<Duty, Memory>
 
 /// A pairing with one duty.
 fn pairing(alloc: Global, name: Name, duty: Duty) -> Result<Pairing, Memory>
+    requires named { IsTrue (is_name name) }
     requires form { IsDuty duty }
     requires report { duty.report ≡ 528960 }
     requires release { duty.release ≡ 529350 }
@@ -58,6 +62,7 @@ fn pairing(alloc: Global, name: Name, duty: Duty) -> Result<Pairing, Memory>
 
 /// A member without events.
 fn member(alloc: Global, name: Name) -> Member
+    requires named { IsTrue (is_name name) }
     ensures form { (h : Month) → IsMember h result }
 {
     Member {
@@ -136,7 +141,10 @@ fn judges_lines_and_rosters(rt: HostRuntime) -> Result<(), Memory> {
     };
     assert_eq!(rt; legal(alloc, &problem, 0, &empty), Ok(()));
     assert_eq!(rt; legal(alloc, &problem, 0, &line), Ok(()));
-    assert_eq!(rt; timeline(alloc, &problem, 0, &line)?.len(), 1);
+    let events = timeline(alloc, &problem, 0, &line)?;
+    assert_eq!(rt; events.len(), 1);
+    assert_eq!(rt; events.as_slice()[0].kind, Kind::Flight);
+    assert_eq!(rt; events.as_slice()[0].report, 528_960);
     let idle: Roster = one(alloc, empty)?;
     assert_eq!(rt;
         complete(alloc, &problem, &idle),

@@ -2,6 +2,7 @@
 use Rattle.std.proofs.Common.{◌≡◌, ◌≢◌, ℕ, ◌+◌, ◌-◌, ◌<◌, ◌≤◌, List, [], ◌∷◌, ◌++◌, length, map, Bool, true, false, not, ◌&&◌, ◌||◌, ◌==◌, nat_lt, nat_le, nat_eq, if◌then◌else◌, Option, Some, None, slice_get, slice_set, All, AllPairs, refl, arith, sym, ap, subst, ◌∙◌, inl, inr, length-append}
 use Rattle.std.specs.Cmp.Lexicographic.{pointwise}
 use Rattle.std.specs.List.{list_any}
+use Rattle.std.specs.Prelude.{IsTrue}
 use Rattle.std.specs.Option.{ForSome, option_map_or}
 use Rattle.std.proofs.Math.ListN.{length-set}
 use Rattle.std.proofs.Math.Seq.{map-set_same}
@@ -9,6 +10,7 @@ use Rattle.std.proofs.lemmas.Bool.Decides.{nat_tests}
 use Rattle.std.proofs.lemmas.List.Elements.{All-nil, All-push, All-set, All-map, All-weaker}
 use Rattle.std.proofs.lemmas.Option.{get_or_from_slice_get, slice_get_within}
 use Rattle.duty_calendar.specs.Calendar.{month_end, horizon_end}
+use Rattle.duty_calendar.specs.Forms.{is_name, is_station_code}
 use Rattle.duty_calendar.specs.declared.horizon.Horizon.{Horizon}
 use Rattle.duty_calendar.specs.declared.pairing.Duty.{Duty}
 use Rattle.duty_calendar.specs.declared.pairing.Leg.{Leg}
@@ -28,8 +30,11 @@ pub record IsBegunDuty (d : Duty) : Type 0 where
   pub few_legs : length d.legs ≤ 8
   pub legs : All (λ l. (d.report ≤ l.flown.out_at) × (l.flown.out_at < l.flown.in_at) × (l.flown.in_at ≤ d.parked)) d.legs
   pub in_order : AllPairs (λ k l. k.flown.in_at ≤ l.flown.out_at) d.legs
+  pub stations : All (λ l. IsTrue (is_station_code l.from) × IsTrue (is_station_code l.to)) d.legs
+  pub stays : ForSome d.layover (λ s. IsTrue (is_station_code s))
 
 pub record IsBegun (h : Horizon) (p : Pairing) : Type 0 where
+  pub named : IsTrue (is_name p.name)
   pub some_need : 1 ≤ p.need
   pub few_need : p.need ≤ 9
   pub few_credit : p.credit ≤ 12000
@@ -59,7 +64,7 @@ pub record IsBegunDraft (h : Horizon) (d : Draft) : Type 0 where
 
 -- a pairing
 
-same-self : (xs : List ℕ) → pointwise nat_eq xs xs ≡ true
+pub same-self : (xs : List ℕ) → pointwise nat_eq xs xs ≡ true
 same-self [] = refl
 same-self (x ∷ xs) = let e : nat_eq x x ≡ true = grind (arith, nat_tests) in rw (e, same-self xs) refl
 
@@ -71,8 +76,9 @@ other-names list name none =
     (λ (p : Pairing). λ miss. λ same. let hit : pointwise nat_eq name p.name ≡ true = ap (λ (n : List ℕ). pointwise nat_eq name n) same ∙ same-self name in cc (sym hit ∙ miss))
     list (list_any-false (is_called name) list none))
 
-pub begun-pairing : (h : Horizon) (p : Pairing) → p.duties ≡ [] → 1 ≤ p.need → p.need ≤ 9 → p.credit ≤ 12000 → IsBegun h p
-begun-pairing h p none some few credit = record {
+pub begun-pairing : (h : Horizon) (p : Pairing) → IsTrue (is_name p.name) → p.duties ≡ [] → 1 ≤ p.need → p.need ≤ 9 → p.credit ≤ 12000 → IsBegun h p
+begun-pairing h p named none some few credit = record {
+  named = named;
   some_need = some;
   few_need = few;
   few_credit = credit;
@@ -93,8 +99,8 @@ covers-pairing places list p none covers i k q e at there = elim (get-pushed lis
   | inr new ↦ absurd (no-duty p k e none (ap (λ (x : Pairing). slice_get x.duties k) (sym new.1) ∙ there))
 ]
 
-pub keeps-pairing : (h : Horizon) (before : Draft) (p : Pairing) → IsBegunDraft h before → p.duties ≡ [] → pairing_fault before.list p ≡ None → IsBegunDraft h (with_pairing before p)
-keeps-pairing h before p good none fits =
+pub keeps-pairing : (h : Horizon) (before : Draft) (p : Pairing) → IsBegunDraft h before → IsTrue (is_name p.name) → p.duties ≡ [] → pairing_fault before.list p ≡ None → IsBegunDraft h (with_pairing before p)
+keeps-pairing h before p good named none fits =
     let pass = four-pass (list_any (is_called p.name) before.list) (nat_le 600 (length before.list)) (nat_lt p.need 1 || nat_lt 9 p.need) (nat_lt 12000 p.credit) Duplicate (Limit 2) (Limit 5) (Limit 6) fits in
     let room : length before.list < 600 = le-false 600 (length before.list) pass.1 in
     let need = or-false (nat_lt p.need 1) (nat_lt 9 p.need) pass.2 in
@@ -103,7 +109,7 @@ keeps-pairing h before p good none fits =
     let credit : p.credit ≤ 12000 = lt-false 12000 p.credit pass.3 in
     record {
       few = omega (arith, length-append before.list (p ∷ []));
-      each = All-push (IsBegun h) before.list p good.each (begun-pairing h p none some few credit);
+      each = All-push (IsBegun h) before.list p good.each (begun-pairing h p named none some few credit);
       names = subst (λ (ns : List (List ℕ)). AllPairs (λ (a b : List ℕ). a ≢ b) ns) (sym (map-append_of (λ (x : Pairing). x.name) before.list (p ∷ [])))
           (pairs-push (λ (a b : List ℕ). a ≢ b) (names_of before.list) p.name good.names (other-names before.list p.name pass.0));
       covered = covers-pairing before.places before.list p none good.covered;
@@ -141,8 +147,14 @@ some-fits most number xs fits = go (nat_le most (length xs)) refl fits
     go true f g = absurd (cc g)
     go false f g = le-false most (length xs) f
 
-pub begun-duty : (d : Duty) → d.legs ≡ [] → is_duty_in_order d ≡ true → IsBegunDuty d
-begun-duty d none order =
+abbrev pub Stays : Duty → Type 0
+Stays d = ForSome d.layover (λ s. IsTrue (is_station_code s))
+
+abbrev pub Joins : Leg → Type 0
+Joins l = IsTrue (is_station_code l.from) × IsTrue (is_station_code l.to)
+
+pub begun-duty : (d : Duty) → Stays d → d.legs ≡ [] → is_duty_in_order d ≡ true → IsBegunDuty d
+begun-duty d stays none order =
     let outer = and-true (nat_le d.report d.parked && nat_le d.parked d.release) (nat_lt d.report d.release) order in
     let inner = and-true (nat_le d.report d.parked) (nat_le d.parked d.release) outer.0 in
     record {
@@ -152,6 +164,8 @@ begun-duty d none order =
       few_legs = omega (arith, ap length none);
       legs = subst (λ (ls : List Leg). All (λ (l : Leg). (d.report ≤ l.flown.out_at) × (l.flown.out_at < l.flown.in_at) × (l.flown.in_at ≤ d.parked)) ls) (sym none) (λ k x w. absurd (omega arith));
       in_order = subst (λ (ls : List Leg). AllPairs (λ (k l : Leg). k.flown.in_at ≤ l.flown.out_at) ls) (sym none) (λ i j x lt w. absurd (omega arith));
+      stations = subst (λ (ls : List Leg). All Joins ls) (sym none) (All-nil Joins);
+      stays = stays;
     }
 
 lasting : (ds : List Duty) → All IsBegunDuty ds → All (λ d. d.report ≤ d.release) ds
@@ -180,17 +194,18 @@ still-begins h p d good fits x at = elim (get-pushed p.duties d 0 x at) [
     go None e f zero_many = (first-in-month h None d.report refl f).1
     go (Some l) e f zero_many = absurd (let w = slice_get_within p.duties (length p.duties - 1) l e in omega arith)
 
-pub begun-more : (h : Horizon) (p : Pairing) (number : ℕ) (d : Duty) → IsBegun h p → d.legs ≡ [] → d.release ≤ horizon_end h → duty_fault h p number d ≡ None → IsBegun h (adding_duty p d)
-begun-more h p number d good none within fits =
+pub begun-more : (h : Horizon) (p : Pairing) (number : ℕ) (d : Duty) → IsBegun h p → Stays d → d.legs ≡ [] → d.release ≤ horizon_end h → duty_fault h p number d ≡ None → IsBegun h (adding_duty p d)
+begun-more h p number d good stays none within fits =
     let pass = two-pass (number == length p.duties + 1) (is_duty_in_order d) Order Order (first_fault (report_fault h (last_of p.duties) d.report) (too_many 12 3 p.duties)) fits in
     let both = both-none (report_fault h (last_of p.duties) d.report) (too_many 12 3 p.duties) pass.2 in
     let room : length p.duties < 12 = some-fits 12 3 p.duties both.1 in
     record {
+      named = good.named;
       some_need = good.some_need;
       few_need = good.few_need;
       few_credit = good.few_credit;
       few_duties = omega (arith, length-append p.duties (d ∷ []));
-      each_duty = All-push IsBegunDuty p.duties d good.each_duty (begun-duty d none pass.1);
+      each_duty = All-push IsBegunDuty p.duties d good.each_duty (begun-duty d stays none pass.1);
       in_order = order-push (λ (x : Duty). x.report) (λ (x : Duty). x.release) 600 p.duties d (lasting p.duties good.each_duty) good.in_order
           (λ (l : Duty). λ e. after-last h (last_of p.duties) l d.report e both.0);
       coming = All-push (λ (x : Duty). 525600 ≤ x.report) p.duties d good.coming (later h p d good both.0);
@@ -219,11 +234,11 @@ covers-duty places list n p d at covers i k q e here there =
       | inr old ↦ let c = covers i k q e old there in (c.0, get-left places (z ∷ []) c.0 (place_at i k) c.1)
     ]
 
-pub keeps-duty : (h : Horizon) (before : Draft) (i : ℕ) (p : Pairing) (number : ℕ) (d : Duty) → IsBegunDraft h before → slice_get before.list i ≡ Some p → d.legs ≡ [] → d.release ≤ horizon_end h → duty_fault h p number d ≡ None
+pub keeps-duty : (h : Horizon) (before : Draft) (i : ℕ) (p : Pairing) (number : ℕ) (d : Duty) → IsBegunDraft h before → slice_get before.list i ≡ Some p → Stays d → d.legs ≡ [] → d.release ≤ horizon_end h → duty_fault h p number d ≡ None
     → IsBegunDraft h (with_duty before i p d)
-keeps-duty h before i p number d good at none within fits = record {
+keeps-duty h before i p number d good at stays none within fits = record {
   few = omega (arith, length-set before.list i (adding_duty p d), good.few);
-  each = All-set (IsBegun h) before.list i (adding_duty p d) (begun-more h p number d (all-get (IsBegun h) before.list i p good.each at) none within fits) good.each;
+  each = All-set (IsBegun h) before.list i (adding_duty p d) (begun-more h p number d (all-get (IsBegun h) before.list i p good.each at) stays none within fits) good.each;
   names = names-stay before.list i p (adding_duty p d) at refl good.names;
   covered = covers-duty before.places before.list i p d at good.covered;
 }
@@ -247,8 +262,8 @@ flying : (d : Duty) → IsBegunDuty d → All (λ l. l.flown.out_at ≤ l.flown.
 flying d good = All-weaker (λ (l : Leg). (d.report ≤ l.flown.out_at) × (l.flown.out_at < l.flown.in_at) × (l.flown.in_at ≤ d.parked)) (λ (l : Leg). l.flown.out_at ≤ l.flown.in_at)
     (λ (l : Leg). λ b. let x : l.flown.out_at < l.flown.in_at = b.1 in omega arith) d.legs good.legs
 
-pub begun-leg : (d : Duty) (l : Leg) → IsBegunDuty d → leg_fault d l ≡ None → IsBegunDuty (adding_leg d l)
-begun-leg d l good fits =
+pub begun-leg : (d : Duty) (l : Leg) → IsBegunDuty d → Joins l → leg_fault d l ≡ None → IsBegunDuty (adding_leg d l)
+begun-leg d l good joins fits =
     let pass = leg-passes d l fits in
     let room : length d.legs < 8 = pass.2 in
     let outer = and-true (nat_le d.report l.flown.out_at && nat_lt l.flown.out_at l.flown.in_at) (nat_le l.flown.in_at d.parked) pass.0 in
@@ -264,6 +279,8 @@ begun-leg d l good fits =
           (order-push (λ (m : Leg). m.flown.out_at) (λ (m : Leg). m.flown.in_at) 0 d.legs l (flying d good)
           (pairs-weaker (λ (k m : Leg). k.flown.in_at ≤ m.flown.out_at) (λ (k m : Leg). k.flown.in_at + 0 ≤ m.flown.out_at) d.legs (λ (a b : Leg). λ e. omega arith) good.in_order)
           (λ (k : Leg). λ e. let f : k.flown.in_at ≤ l.flown.out_at = not-before (last_of d.legs) k l e pass.1 in omega arith));
+      stations = All-push Joins d.legs l good.stations joins;
+      stays = good.stays;
     }
 
 abbrev changed : Pairing → ℕ → Duty → Pairing
@@ -275,6 +292,7 @@ begun-changed h p k d e good at begun report release =
     let came : 525600 ≤ d.report = all-get (λ (x : Duty). 525600 ≤ x.report) p.duties k d good.coming at in
     let ended : d.release ≤ horizon_end h = all-get (λ (x : Duty). x.release ≤ horizon_end h) p.duties k d good.ends at in
     record {
+      named = good.named;
       some_need = good.some_need;
       few_need = good.few_need;
       few_credit = good.few_credit;
@@ -300,11 +318,11 @@ covers-changed places list n p m d f at held covers i k q e here there = elim (g
   | inr old ↦ covers i k q e old there
 ]
 
-pub keeps-leg : (h : Horizon) (before : Draft) (i : ℕ) (p : Pairing) (k : ℕ) (d : Duty) (l : Leg) → IsBegunDraft h before → slice_get before.list i ≡ Some p → slice_get p.duties k ≡ Some d → leg_fault d l ≡ None
+pub keeps-leg : (h : Horizon) (before : Draft) (i : ℕ) (p : Pairing) (k : ℕ) (d : Duty) (l : Leg) → IsBegunDraft h before → slice_get before.list i ≡ Some p → slice_get p.duties k ≡ Some d → Joins l → leg_fault d l ≡ None
     → IsBegunDraft h (with_leg before i p k d l)
-keeps-leg h before i p k d l good at held fits =
+keeps-leg h before i p k d l good at held joins fits =
     let whole = all-get (IsBegun h) before.list i p good.each at in
-    let duty = begun-leg d l (all-get IsBegunDuty p.duties k d whole.each_duty held) fits in
+    let duty = begun-leg d l (all-get IsBegunDuty p.duties k d whole.each_duty held) joins fits in
     record {
       few = omega (arith, length-set before.list i (changed p k (adding_leg d l)), good.few);
       each = All-set (IsBegun h) before.list i (changed p k (adding_leg d l)) (begun-changed h p k d (adding_leg d l) whole held duty refl refl) good.each;

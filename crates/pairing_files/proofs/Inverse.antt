@@ -38,18 +38,39 @@ text_row-ok {A} width fields read y e = go (list_all is_utf8 fields) (length fie
     go false b h = absurd (cc h)
 
 -- three columns that gave a value
+pub record GaveThree {A B C D E : Type 0} (a : Result A E) (b : Result B E) (c : Result C E) (make : A → B → C → D) (z : D) : Type 0 where
+  pub x : A
+  pub y : B
+  pub w : C
+  pub first : a ≡ Ok x
+  pub made : make x y w ≡ z
+
 pub three-ok : {A B C D E : Type 0} (a : Result A E) (b : Result B E) (c : Result C E) (make : A → B → C → D) (z : D)
-    → (a >>= (λ x. b >>= (λ y. c >>= (λ w. Ok (make x y w))))) ≡ Ok z → (x : A) × (y : B) × (w : C) × (make x y w ≡ z)
-three-ok (Ok x) (Ok y) (Ok w) make z e = (x, y, w, cc e)
+    → (a >>= (λ x. b >>= (λ y. c >>= (λ w. Ok (make x y w))))) ≡ Ok z → GaveThree a b c make z
+three-ok (Ok x) (Ok y) (Ok w) make z e = record { x = x; y = y; w = w; first = refl; made = cc e }
 three-ok (Ok x) (Ok y) (Err f) make z e = absurd (cc e)
 three-ok (Ok x) (Err f) c make z e = absurd (cc e)
 three-ok (Err f) b c make z e = absurd (cc e)
 
--- six columns that gave a value, of which the fifth is looked at
+-- six columns that gave a value
+pub record GaveSix {A B C D F G H E : Type 0} (a : Result A E) (b : Result B E) (c : Result C E) (d : Result D E) (f : Result F E) (g : Result G E) (make : A → B → C → D → F → G → H) (z : H) : Type 0 where
+  pub x1 : A
+  pub x2 : B
+  pub x3 : C
+  pub x4 : D
+  pub x5 : F
+  pub x6 : G
+  pub third : c ≡ Ok x3
+  pub fourth : d ≡ Ok x4
+  pub fifth : f ≡ Ok x5
+  pub sixth : g ≡ Ok x6
+  pub made : make x1 x2 x3 x4 x5 x6 ≡ z
+
 pub six-ok : {A B C D F G H E : Type 0} (a : Result A E) (b : Result B E) (c : Result C E) (d : Result D E) (f : Result F E) (g : Result G E) (make : A → B → C → D → F → G → H) (z : H)
     → (a >>= (λ x1. b >>= (λ x2. c >>= (λ x3. d >>= (λ x4. f >>= (λ x5. g >>= (λ x6. Ok (make x1 x2 x3 x4 x5 x6)))))))) ≡ Ok z
-    → (x1 : A) × (x2 : B) × (x3 : C) × (x4 : D) × (x5 : F) × (x6 : G) × (f ≡ Ok x5) × (make x1 x2 x3 x4 x5 x6 ≡ z)
-six-ok (Ok x1) (Ok x2) (Ok x3) (Ok x4) (Ok x5) (Ok x6) make z e = (x1, x2, x3, x4, x5, x6, refl, cc e)
+    → GaveSix a b c d f g make z
+six-ok (Ok x1) (Ok x2) (Ok x3) (Ok x4) (Ok x5) (Ok x6) make z e =
+    record { x1 = x1; x2 = x2; x3 = x3; x4 = x4; x5 = x5; x6 = x6; third = refl; fourth = refl; fifth = refl; sixth = refl; made = cc e }
 six-ok (Ok x1) (Ok x2) (Ok x3) (Ok x4) (Ok x5) (Err c) make z e = absurd (cc e)
 six-ok (Ok x1) (Ok x2) (Ok x3) (Ok x4) (Err c) g make z e = absurd (cc e)
 six-ok (Ok x1) (Ok x2) (Ok x3) (Err c) f g make z e = absurd (cc e)

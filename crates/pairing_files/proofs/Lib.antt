@@ -7,3 +7,9 @@ pub mod Begun
 pub mod Valid
 pub mod LineFacts
 pub mod Ends
+pub mod Seams
+pub mod RowsLead
+pub mod RowsAgain
+pub mod FaultsAgain
+pub mod FilesAgain
+pub mod PairingsAgain

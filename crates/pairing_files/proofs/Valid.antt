@@ -1,13 +1,15 @@
 -- What the three files give keeps the checks of pairings.
 use Rattle.std.proofs.Common.{◌≡◌, ℕ, zero, suc, ◌+◌, ◌-◌, ◌≤◌, List, [], ◌∷◌, length, Bool, true, false, ◌==◌, nat_le, if◌then◌else◌, Option, Some, None, Result, Ok, Err, slice_get, slice_range, position, All, ℤ, pos, negsuc, refl, arith, sym, ap, subst, ◌∙◌, length-append}
-use Rattle.std.specs.Option.{option_map_or}
+use Rattle.std.specs.Option.{ForSome, option_map_or}
+use Rattle.std.specs.Prelude.{IsTrue}
 use Rattle.std.proofs.lemmas.List.Elements.{All-nil}
 use Rattle.duty_calendar.specs.Calendar.{horizon_end, up_to, minute_on, local_minute_on}
+use Rattle.duty_calendar.specs.Forms.{is_name, is_station_code}
 use Rattle.duty_calendar.specs.Checks.{IsDuty, IsPairing, ArePairings}
 use Rattle.duty_calendar.specs.declared.horizon.Horizon.{Horizon}
 use Rattle.duty_calendar.specs.declared.pairing.Duty.{Duty}
 use Rattle.duty_calendar.specs.declared.pairing.Pairing.{Pairing}
-use Rattle.field_text.specs.Fields.{shaped, moment, clock_value, day_value, moment_value, moment_field, name_field, number_field, minutes_field}
+use Rattle.field_text.specs.Fields.{shaped, moment, clock_value, day_value, moment_value, moment_field, name_field, number_field, minutes_field, station_field}
 use Rattle.field_text.specs.Form.{fault_from, row}
 use Rattle.field_text.specs.Rows.{in_column}
 use Rattle.field_text.specs.Sizes.{longest}
@@ -19,6 +21,7 @@ use Rattle.field_text.specs.declared.file_fault.FileCode.TheVariants.{Unknown}
 use Rattle.field_text.specs.declared.file_fault.FileFault.{FileFault}
 use Rattle.field_text.specs.declared.file_fault.FileName.{FileName}
 use Rattle.field_text.specs.declared.file_fault.FileName.TheVariants.{Pairings, Duties, Legs}
+use Rattle.field_text.proofs.FieldsAgain.{name-read, station-read}
 use Rattle.field_text.proofs.RecordsLeft.{length-records}
 use Rattle.pairing_files.specs.declared.row.DutyRow.{DutyRow}
 use Rattle.pairing_files.specs.declared.row.LegRow.{LegRow}
@@ -28,7 +31,7 @@ use Rattle.pairing_files.specs.Drafts.{Draft, no_draft, place_of, with_pairing, 
 use Rattle.pairing_files.specs.Faults.{pairing_fault, duty_fault, leg_fault, numbered}
 use Rattle.pairing_files.specs.Files.{unless, place_pairing, place_duty, place_leg, pairing_row, duty_row, leg_row, records_of, pairings_file, duties_file, legs_file, is_idle, is_bare, lacks_parts, part_fault, draft_from, finished, pairings_of}
 use Rattle.pairing_files.specs.Rows.{text_row}
-use Rattle.pairing_files.proofs.Begun.{IsBegunDuty, IsBegun, place_at, IsBegunDraft, keeps-pairing, keeps-duty, keeps-leg}
+use Rattle.pairing_files.proofs.Begun.{IsBegunDuty, IsBegun, Stays, Joins, place_at, IsBegunDraft, keeps-pairing, keeps-duty, keeps-leg}
 use Rattle.pairing_files.proofs.HeaderFacts.{get_or-map_of}
 use Rattle.pairing_files.proofs.Inverse.{both-none, bind-ok, unless-ok, or_fault-ok, in_column-ok, text_row-ok, three-ok, six-ok, le-true, file-keeps}
 use Rattle.pairing_files.proofs.ListFacts.{all-get, all-from, position-none, pairs-map}
@@ -71,19 +74,51 @@ row-keeps_pairing h s t fields good e =
     let columns : pairing_columns fields ≡ Ok p = text_row-ok 3 fields (pairing_columns fields) p outer.1 in
     let parts = three-ok (in_column 1 (name_field (field_at fields 0))) (in_column 2 (number_field (field_at fields 1))) (in_column 3 (minutes_field (field_at fields 2)))
     (λ (name : List ℕ) (need credit : ℕ). let made : Pairing = record { name = name; need = need; credit = credit; duties = [] } in made) p columns in
-    let none : p.duties ≡ [] = sym (ap (λ (q : Pairing). q.duties) parts.3) in
+    let none : p.duties ≡ [] = sym (ap (λ (q : Pairing). q.duties) parts.made) in
+    let read = in_column-ok 1 (name_field (field_at fields 0)) parts.x parts.first in
+    let named : IsTrue (is_name p.name) = subst (λ (n : List ℕ). IsTrue (is_name n)) (ap (λ (q : Pairing). q.name) parts.made) (name-read (field_at fields 0) parts.x read) in
     let placed = unless-ok (pairing_fault s.list p) (with_pairing s p) t outer.2 in
-    subst (IsBegunDraft h) placed.1 (keeps-pairing h s p good none placed.0)
+    subst (IsBegunDraft h) placed.1 (keeps-pairing h s p good named none placed.0)
 
-duty-columns : (h : Horizon) (fields : List (List ℕ)) (r : DutyRow) → duty_columns h fields ≡ Ok r → (r.duty.legs ≡ []) × (r.duty.release ≤ horizon_end h)
+layover-read : (text : List ℕ) (o : Option (List ℕ)) → layover_field text ≡ Ok o → ForSome o (λ s. IsTrue (is_station_code s))
+layover-read [] o e s f = absurd (let same : None ≡ o = cc e in cc (same ∙ f))
+layover-read (b ∷ bs) o e s f =
+    let read = bind-ok (station_field (b ∷ bs)) (λ (t : List ℕ). let given : Result (Option (List ℕ)) FieldFault = Ok (Some t) in given) o e in
+    let same : Some read.0 ≡ o = cc read.2 in
+    let there : read.0 ≡ s = cc (same ∙ f) in
+    subst (λ (t : List ℕ). IsTrue (is_station_code t)) there (station-read (b ∷ bs) read.0 read.1)
+
+-- the duty of a row, and the leg of one
+record IsDutyRead (h : Horizon) (d : Duty) : Type 0 where
+  bare : d.legs ≡ []
+  within : d.release ≤ horizon_end h
+  stays : Stays d
+
+duty-columns : (h : Horizon) (fields : List (List ℕ)) (r : DutyRow) → duty_columns h fields ≡ Ok r → IsDutyRead h r.duty
 duty-columns h fields r e =
     let parts = six-ok (in_column 1 (name_field (field_at fields 0))) (in_column 2 (number_field (field_at fields 1))) (in_column 3 (moment_field h (field_at fields 2)))
     (in_column 4 (moment_field h (field_at fields 3))) (in_column 5 (moment_field h (field_at fields 4))) (in_column 6 (layover_field (field_at fields 5)))
     (λ (name : List ℕ) (number report parked release : ℕ) (layover : Option (List ℕ)).
     let made : DutyRow = record { name = name; number = number; duty = record { report = report; parked = parked; release = release; layover = layover; legs = [] } } in made) r e in
-    let read = in_column-ok 5 (moment_field h (field_at fields 4)) parts.4 parts.6 in
-    let within : parts.4 ≤ horizon_end h = moment-within h (field_at fields 4) parts.4 read in
-    (sym (ap (λ (q : DutyRow). q.duty.legs) parts.7), subst (λ (n : ℕ). n ≤ horizon_end h) (ap (λ (q : DutyRow). q.duty.release) parts.7) within)
+    let within : parts.x5 ≤ horizon_end h = moment-within h (field_at fields 4) parts.x5 (in_column-ok 5 (moment_field h (field_at fields 4)) parts.x5 parts.fifth) in
+    let stays = layover-read (field_at fields 5) parts.x6 (in_column-ok 6 (layover_field (field_at fields 5)) parts.x6 parts.sixth) in
+    record {
+      bare = sym (ap (λ (q : DutyRow). q.duty.legs) parts.made);
+      within = subst (λ (n : ℕ). n ≤ horizon_end h) (ap (λ (q : DutyRow). q.duty.release) parts.made) within;
+      stays = subst (λ (o : Option (List ℕ)). ForSome o (λ s. IsTrue (is_station_code s))) (ap (λ (q : DutyRow). q.duty.layover) parts.made) stays;
+    }
+
+leg-columns : (h : Horizon) (fields : List (List ℕ)) (r : LegRow) → leg_columns h fields ≡ Ok r → Joins r.leg
+leg-columns h fields r e =
+    let parts = six-ok (in_column 1 (name_field (field_at fields 0))) (in_column 2 (number_field (field_at fields 1))) (in_column 3 (station_field (field_at fields 2)))
+    (in_column 4 (station_field (field_at fields 3))) (in_column 5 (moment_field h (field_at fields 4))) (in_column 6 (moment_field h (field_at fields 5)))
+    (λ (name : List ℕ) (number : ℕ) (from to : List ℕ) (out_at in_at : ℕ).
+    let made : LegRow = record { name = name; number = number; leg = record { from = from; to = to; flown = record { out_at = out_at; in_at = in_at } } } in made) r e in
+    let from = station-read (field_at fields 2) parts.x3 (in_column-ok 3 (station_field (field_at fields 2)) parts.x3 parts.third) in
+    let to = station-read (field_at fields 3) parts.x4 (in_column-ok 4 (station_field (field_at fields 3)) parts.x4 parts.fourth) in (
+      subst (λ (s : List ℕ). IsTrue (is_station_code s)) (ap (λ (q : LegRow). q.leg.from) parts.made) from,
+      subst (λ (s : List ℕ). IsTrue (is_station_code s)) (ap (λ (q : LegRow). q.leg.to) parts.made) to,
+    )
 
 pub row-keeps_duty : (h : Horizon) (s t : Draft) (fields : List (List ℕ)) → IsBegunDraft h s → duty_row h s fields ≡ Ok t → IsBegunDraft h t × (length t.places ≤ length s.places + 1)
 row-keeps_duty h s t fields good e =
@@ -97,7 +132,7 @@ row-keeps_duty h s t fields good e =
     let at : slice_get s.list i ≡ Some p = or_fault-ok Unknown (slice_get s.list i) p there.1 in
     let placed = unless-ok (duty_fault h p r.number r.duty) (with_duty s i p r.duty) t there.2 in
     let size : length (with_duty s i p r.duty).places ≤ length s.places + 1 = omega (arith, length-append s.places (record { pairing = i; duty = length p.duties } ∷ [])) in (
-      subst (IsBegunDraft h) placed.1 (keeps-duty h s i p r.number r.duty good at columns.0 columns.1 placed.0),
+      subst (IsBegunDraft h) placed.1 (keeps-duty h s i p r.number r.duty good at columns.stays columns.bare columns.within placed.0),
       subst (λ (d : Draft). length d.places ≤ length s.places + 1) placed.1 size,
     )
 
@@ -109,6 +144,7 @@ pub row-keeps_leg : (h : Horizon) (s t : Draft) (fields : List (List ℕ)) → I
 row-keeps_leg h s t fields good e =
     let outer = bind-ok (text_row 6 fields (leg_columns h fields)) (place_leg s) t e in
     let r : LegRow = outer.0 in
+    let joins = leg-columns h fields r (text_row-ok 6 fields (leg_columns h fields) r outer.1) in
     let last : ℕ → Pairing → Duty → Result Draft FileCode = λ i p d. unless (leg_fault d r.leg) (with_leg s i p (r.number - 1) d r.leg) in
     let found = bind-ok (or_fault Unknown (place_of r.name s.list)) (λ (i : ℕ). or_fault Unknown (slice_get s.list i) >>= (λ (p : Pairing). or_fault Unknown (numbered p.duties r.number) >>= (λ (d : Duty). last i p d))) t outer.2 in
     let i : ℕ = found.0 in
@@ -119,7 +155,7 @@ row-keeps_leg h s t fields good e =
     let at : slice_get s.list i ≡ Some p = or_fault-ok Unknown (slice_get s.list i) p there.1 in
     let duty : slice_get p.duties (r.number - 1) ≡ Some d = numbered-place p.duties r.number d (or_fault-ok Unknown (numbered p.duties r.number) d held.1) in
     let placed = unless-ok (leg_fault d r.leg) (with_leg s i p (r.number - 1) d r.leg) t held.2 in
-    (subst (IsBegunDraft h) placed.1 (keeps-leg h s i p (r.number - 1) d r.leg good at duty placed.0), sym (ap (λ (x : Draft). x.places) placed.1))
+    (subst (IsBegunDraft h) placed.1 (keeps-leg h s i p (r.number - 1) d r.leg good at duty joins placed.0), sym (ap (λ (x : Draft). x.places) placed.1))
 
 -- files
 
@@ -187,6 +223,8 @@ whole-duty d b some = record {
   few_legs = b.few_legs;
   legs = b.legs;
   in_order = b.in_order;
+  stations = b.stations;
+  stays = b.stays;
 }
 
 pub finished-valid : (h : Horizon) (d : Draft) (list : List Pairing) → IsBegunDraft h d → finished d ≡ Ok list → ArePairings h list
@@ -198,6 +236,7 @@ finished-valid h d list good e =
     let whole : All (IsPairing h) d.list = all-from (IsPairing h) d.list (λ (i : ℕ) (p : Pairing). λ at.
     let b = all-get (IsBegun h) d.list i p good.each at in
     record {
+      named = b.named;
       some_need = b.some_need;
       few_need = b.few_need;
       few_credit = b.few_credit;

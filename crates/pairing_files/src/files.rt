@@ -50,6 +50,7 @@ fn read_header(
 ) -> Result<(), FileFault>
     ensures there { OnOk result (BeginsWith (map (λ f. f.now) header.now) records.old records.new) }
     ensures fault { IfErr result (λ e. e.code ≢ NoMemory → LacksHeader (map (λ f. f.now) header.now) records.old × (e ≡ record { file = file; row = 1; code = Header })) }
+    ensures memory { IfErr result (λ e. e.code ≡ NoMemory → e.row ≡ 0) }
 {
     let Some(row) = next(alloc, file, records)? else {
         return Err(at_row(file, 1, FileCode::Header));
@@ -70,6 +71,7 @@ fn read_pairing_rows(
     requires named { IsNamed tables.old }
     ensures rows { Gives (λ _. draft_of tables.new) result (rows_from Pairings pairing_row 2 (draft_of tables.old) records.old) }
     ensures named { OnOk result (IsNamed tables.new) }
+    ensures memory { IfErr result (λ e. e.code ≡ NoMemory → e.row ≡ 0) }
 {
     let mut row = 2;
     'rows: while let Some(raw) = next(alloc, FileName::Pairings, records)? {
@@ -92,6 +94,7 @@ fn read_duty_rows(
     requires named { IsNamed tables.old }
     ensures rows { Gives (λ _. draft_of tables.new) result (rows_from Duties (duty_row horizon.now) 2 (draft_of tables.old) records.old) }
     ensures named { OnOk result (IsNamed tables.new) }
+    ensures memory { IfErr result (λ e. e.code ≡ NoMemory → e.row ≡ 0) }
 {
     let mut row = 2;
     'rows: while let Some(raw) = next(alloc, FileName::Duties, records)? {
@@ -114,6 +117,7 @@ fn read_leg_rows(
     requires named { IsNamed tables.old }
     ensures rows { Gives (λ _. draft_of tables.new) result (rows_from Legs (leg_row horizon.now) 2 (draft_of tables.old) records.old) }
     ensures named { OnOk result (IsNamed tables.new) }
+    ensures memory { IfErr result (λ e. e.code ≡ NoMemory → e.row ≡ 0) }
 {
     let mut row = 2;
     'rows: while let Some(raw) = next(alloc, FileName::Legs, records)? {
@@ -135,6 +139,7 @@ fn read_pairing_records(
     requires named { IsNamed tables.old }
     ensures file { Gives (λ _. draft_of tables.new) result (file Pairings pairings_header pairing_row (draft_of tables.old) records.old) }
     ensures named { OnOk result (IsNamed tables.new) }
+    ensures memory { IfErr result (λ e. e.code ≡ NoMemory → e.row ≡ 0) }
 {
     if let Err(fault) = read_header(alloc, FileName::Pairings, records, &PAIRINGS_HEADER) {
         return Err(fault);
@@ -148,6 +153,7 @@ pub fn read_pairing_file(alloc: Global, tables: &mut Tables, text: &[u8]) -> Res
     requires named { IsNamed tables.old }
     ensures file { Gives (λ _. draft_of tables.new) result (pairings_file text.now (draft_of tables.old)) }
     ensures named { OnOk result (IsNamed tables.new) }
+    ensures memory { IfErr result (λ e. e.code ≡ NoMemory → e.row ≡ 0) }
 {
     let mut records = Records::new(alloc, text);
     read_pairing_records(alloc, tables, &mut records)
@@ -164,6 +170,7 @@ fn read_duty_records(
     requires named { IsNamed tables.old }
     ensures file { Gives (λ _. draft_of tables.new) result (file Duties duties_header (duty_row horizon.now) (draft_of tables.old) records.old) }
     ensures named { OnOk result (IsNamed tables.new) }
+    ensures memory { IfErr result (λ e. e.code ≡ NoMemory → e.row ≡ 0) }
 {
     if let Err(fault) = read_header(alloc, FileName::Duties, records, &DUTIES_HEADER) {
         return Err(fault);
@@ -182,6 +189,7 @@ pub fn read_duty_file(
     requires named { IsNamed tables.old }
     ensures file { Gives (λ _. draft_of tables.new) result (duties_file horizon.now text.now (draft_of tables.old)) }
     ensures named { OnOk result (IsNamed tables.new) }
+    ensures memory { IfErr result (λ e. e.code ≡ NoMemory → e.row ≡ 0) }
 {
     let mut records = Records::new(alloc, text);
     read_duty_records(alloc, tables, &mut records, horizon)
@@ -198,6 +206,7 @@ fn read_leg_records(
     requires named { IsNamed tables.old }
     ensures file { Gives (λ _. draft_of tables.new) result (file Legs legs_header (leg_row horizon.now) (draft_of tables.old) records.old) }
     ensures named { OnOk result (IsNamed tables.new) }
+    ensures memory { IfErr result (λ e. e.code ≡ NoMemory → e.row ≡ 0) }
 {
     if let Err(fault) = read_header(alloc, FileName::Legs, records, &LEGS_HEADER) {
         return Err(fault);
@@ -216,6 +225,7 @@ pub fn read_leg_file(
     requires named { IsNamed tables.old }
     ensures file { Gives (λ _. draft_of tables.new) result (legs_file horizon.now text.now (draft_of tables.old)) }
     ensures named { OnOk result (IsNamed tables.new) }
+    ensures memory { IfErr result (λ e. e.code ≡ NoMemory → e.row ≡ 0) }
 {
     let mut records = Records::new(alloc, text);
     read_leg_records(alloc, tables, &mut records, horizon)

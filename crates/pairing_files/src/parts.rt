@@ -54,6 +54,7 @@ pub fn part_fault(tables: &Tables) -> Option<FileFault>
     requires few_pairings { length tables.now.list ≤ longest + 1 }
     requires few_duties { length tables.now.places.items ≤ longest + 1 }
     ensures value { result ≡ part_fault (draft_of tables.now) }
+    ensures code { IfSome result (λ e. e.code ≡ Empty) }
 {
     if let Some(place) = idle_place(tables.list.as_slice()) {
         return Some(lacks_parts(FileName::Pairings, place));

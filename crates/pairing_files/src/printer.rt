@@ -1,5 +1,7 @@
 //! The three files of pairings, written.
-ghost use Rattle.std.specs.Prelude.{◌≡◌, IfOk};
+ghost use Rattle.std.specs.Prelude.{◌≡◌, IfOk, Ok};
+ghost use Rattle.duty_calendar.specs.Checks.{ArePairings};
+ghost use Rattle.pairing_files.specs.Files.{pairings_of};
 ghost use Rattle.pairing_files.specs.Texts.{pairings_text, duties_text, legs_text, EndWithin};
 
 use crate::lines::{put_all_duty_lines, put_all_leg_lines, put_pairing_lines};
@@ -54,6 +56,7 @@ pub fn put_pairings(
     ensures pairings { IfOk result (λ texts. texts.pairings ≡ pairings_text list.now) }
     ensures duties { IfOk result (λ texts. texts.duties ≡ duties_text horizon.now list.now) }
     ensures legs { IfOk result (λ texts. texts.legs ≡ legs_text horizon.now list.now) }
+    ensures again { IfOk result (λ texts. ArePairings horizon.now list.now → pairings_of horizon.now texts.pairings texts.duties texts.legs ≡ Ok list.now) }
 {
     Ok(PairingTexts {
         pairings: pairings_text(alloc, list)?,

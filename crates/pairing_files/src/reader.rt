@@ -1,8 +1,9 @@
 //! The three files of pairings.
-ghost use Rattle.std.specs.Prelude.{◌≡◌, ◌≤◌, length, IfOk, OnOk};
+ghost use Rattle.std.specs.Prelude.{◌≡◌, ◌≤◌, length, IfOk, IfErr, OnOk};
 ghost use Rattle.duty_calendar.specs.Checks.{ArePairings};
 ghost use Rattle.field_text.specs.Sizes.{longest};
 ghost use Rattle.field_text.specs.Rows.{Gives};
+ghost use Rattle.field_text.specs.declared.file_fault.FileCode.TheVariants.{NoMemory};
 ghost use Rattle.pairing_files.specs.Drafts.{draft_of, IsNamed};
 ghost use Rattle.pairing_files.specs.Files.{draft_from, pairings_of};
 
@@ -27,6 +28,7 @@ fn read_files(
     requires short_legs { length legs.now ≤ longest }
     requires named { IsNamed tables.old }
     ensures draft { Gives (λ _. draft_of tables.new) result (draft_from horizon.now pairings.now duties.now legs.now (draft_of tables.old)) }
+    ensures memory { IfErr result (λ e. e.code ≡ NoMemory → e.row ≡ 0) }
 {
     if let Err(fault) = read_pairing_file(alloc, tables, pairings) {
         return Err(fault);
@@ -50,6 +52,7 @@ pub fn read_pairings(
     requires short_legs { length legs.now ≤ longest }
     ensures value { Gives (λ list. list) result (pairings_of horizon.now pairings.now duties.now legs.now) }
     ensures valid { IfOk result (λ list. ArePairings horizon.now list) }
+    ensures memory { IfErr result (λ e. e.code ≡ NoMemory → e.row ≡ 0) }
 {
     let mut tables = Tables::new(alloc);
     if let Err(fault) = read_files(alloc, &mut tables, pairings, duties, legs, horizon) {

@@ -41,6 +41,7 @@ pub fn next(
     ensures next { IfOk result (λ next. MatchOption next (records.old ≡ []) (λ row. records.old ≡ fields_of row ∷ records.new)) }
     ensures short { IfOk result (λ next. IfSome next (λ row. AreWithin longest (fields_of row))) }
     ensures memory { IfErr result (λ e. e.code ≡ NoMemory) }
+    ensures no_row { IfErr result (λ e. e.row ≡ 0) }
 {
     match records.read(alloc) {
         Ok(next) => Ok(next),

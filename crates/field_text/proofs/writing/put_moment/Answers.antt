@@ -1,7 +1,8 @@
 use Rattle.std.proofs.lemmas.Result.{on_err_weaker, on_ok_weaker}
 use Rattle.field_text.specs.Spelling.{date_text, moment_end}
 use Rattle.field_text.proofs.Prefixes.{partly_front, partly_back, on_err_is, whole-back}
-use Rattle.field_text.proofs.Utc.{utc-of, utc-year, moment-spelt, moment-again}
+use Rattle.field_text.proofs.MomentAgain.{moment-read}
+use Rattle.field_text.proofs.Utc.{utc-of, utc-year, moment-spelt}
 use Rattle.field_text.proofs.writing.put_moment.Goals as goal
 
 pub put_day-requires : goal.put_day-requires
@@ -16,9 +17,7 @@ returns-in_err-put_day-clause-partly c =
     (on_err_is c.from_residual.result (partly_front c.args.out.now (date_text c.moment_of-date.result.0) (moment_end c.moment_of-date.result.1) c.put_day.new.out c.in_err-put_day.ensures.partly))
 
 pub returns-in_err-put_day-clause-again : goal.returns-in_err-put_day-clause-again
-returns-in_err-put_day-clause-again c =
-    let u = utc-of c.args.horizon.now c.args.minute c.moment_of-date.result.0 c.moment_of-date.result.1 c.moment_of-date.ensures.minute c.requires.within c.moment_of-date.ensures.inverse in
-    moment-again c.args.horizon.now c.args.minute c.moment_of-date.result.0 c.moment_of-date.result.1 c.moment_of-date.ensures.minute c.moment_of-date.ensures.inverse u
+returns-in_err-put_day-clause-again c = moment-read c.args.horizon.now c.args.minute c.requires.within
 
 pub returns-clause-whole : goal.returns-clause-whole
 returns-clause-whole c =
@@ -37,6 +36,4 @@ returns-clause-partly c =
     c.put_bytes.ensures.partly)
 
 pub returns-clause-again : goal.returns-clause-again
-returns-clause-again c =
-    let u = utc-of c.args.horizon.now c.args.minute c.moment_of-date.result.0 c.moment_of-date.result.1 c.moment_of-date.ensures.minute c.requires.within c.moment_of-date.ensures.inverse in
-    moment-again c.args.horizon.now c.args.minute c.moment_of-date.result.0 c.moment_of-date.result.1 c.moment_of-date.ensures.minute c.moment_of-date.ensures.inverse u
+returns-clause-again c = moment-read c.args.horizon.now c.args.minute c.requires.within
