@@ -52,6 +52,13 @@ impl<R: Resource> Graph<R> {
         })
     }
 
+    /// How many places there are.
+    pub fn places(&self) -> u32
+        ensures places { result ≡ self.now.places }
+    {
+        self.places
+    }
+
     /// Adds an arc as the last one. Its gain lies within 1,099,511,627,776 of zero.
     pub fn arc(&mut self, from: u32, to: u32, gain: i64, step: R::Step) -> Result<(), Memory>
         requires forward { from < to }

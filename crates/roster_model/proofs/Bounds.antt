@@ -32,7 +32,7 @@ pub ascending-length : (xs : List ℕ) (n : ℕ) → is_ascending xs ≡ true �
 ascending-length xs n up small = omega (arith, ascends-length xs 0 n up small (omega arith))
 
 -- the fixed events of one member
-fixed-credit : (h : Horizon) (members : List Member) (m : ℕ) → All (IsMember h) members
+pub fixed-credit : (h : Horizon) (members : List Member) (m : ℕ) → All (IsMember h) members
     → sum_by (λ e. e.credit) (option_map_or (λ m. m.fixed) (slice_get members m) []) ≤ 720000
 fixed-credit h [] m each = omega arith
 fixed-credit h (x ∷ xs) zero each =

@@ -9,6 +9,8 @@ pub mod Scores
 pub mod Legality
 pub mod Rosters
 pub mod Goals
+pub mod Weights
+pub mod Lenses
 pub mod Closing
 pub mod Walk
 pub mod Awards
