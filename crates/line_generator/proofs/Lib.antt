@@ -1,0 +1,4 @@
+pub mod ChainLines
+pub mod StepBound
+pub mod FoundLines
+pub mod Months
