@@ -1,0 +1,296 @@
+//! Texts of certificates.
+
+use crate::{CertCode, CertFault, print_certificate, read_certificate};
+use duty_calendar::{List, Memory};
+use roster_model::{Certificate, Item, Lens, Proof, Shown, Window, WindowKind};
+use std::alloc::Global;
+use std::process::Abort;
+use std::test::Fail;
+
+/// A text with one of each line.
+const FULL: &[u8] =
+    b"pbs-certificate 1\naward 1 2\nproof 5\nsplit 1 9999\ncount 2\nfixed 10\nnoline 3 60 0123456789abcdef 1 0 f672:4294967295 d672:0 d168:10 f365:7\nweights 2 -2147483647 2147483647 0\nlens 1 0000000000000000 0 1\nlens 4294967295 ffffffffffffffff 1 1 f365:0\nshown 1 0\nproof 0\nshown 0 2\nline 1 10 9999\nline\nend\n";
+
+/// A text of the form without a roster.
+const NONE: &[u8] = b"pbs-certificate 1\nnone\nproof 0\nend\n";
+
+/// Says which fault a text has.
+fn assert_fault(
+    rt: &impl Abort,
+    alloc: Global,
+    text: &[u8],
+    line: u32,
+    code: CertCode,
+) -> Result<(), Fail> {
+    assert!(rt; text.len() <= 2_147_483_648);
+    let fault = read_certificate(alloc, text)
+        .err()
+        .expect(rt, "it has a fault");
+    assert_eq!(rt; fault, CertFault { line, code });
+    Ok(())
+}
+
+/// Lines that may stand in place of the item of a proof of one item, and their faults.
+const ITEMS: [(&str, CertCode); 58] = [
+    ("", CertCode::Word),
+    (" ", CertCode::Word),
+    ("split", CertCode::Number),
+    ("split ", CertCode::Number),
+    ("split 1", CertCode::Number),
+    ("split 1 ", CertCode::Number),
+    ("split  1 1", CertCode::Number),
+    ("split 1  1", CertCode::Number),
+    ("split 1 1 ", CertCode::Number),
+    ("split 1 1 1", CertCode::Number),
+    ("split 0 1", CertCode::Number),
+    ("split 1 0", CertCode::Number),
+    ("split 01 1", CertCode::Number),
+    ("split +1 1", CertCode::Number),
+    ("split 1 1\r", CertCode::Number),
+    ("split 1\t1", CertCode::Number),
+    ("split 10000 1", CertCode::Limit),
+    ("split 1 10000", CertCode::Limit),
+    ("split 10000 x", CertCode::Number),
+    ("split 99999999999999999999999999 1", CertCode::Limit),
+    ("split 99999999999999999999999999 0", CertCode::Number),
+    ("split\t1 1", CertCode::Word),
+    (" split 1 1", CertCode::Word),
+    ("Split 1 1", CertCode::Word),
+    ("count", CertCode::Number),
+    ("count 1 1", CertCode::Number),
+    ("count 10000", CertCode::Limit),
+    ("fixed 0", CertCode::Number),
+    ("fixed 10000", CertCode::Limit),
+    ("proof 0", CertCode::Word),
+    ("end", CertCode::Word),
+    ("lens 1 0000000000000000 0 1", CertCode::Word),
+    ("noline", CertCode::Number),
+    ("noline 1", CertCode::Number),
+    ("noline 1 60 0000000000000000 0", CertCode::Number),
+    ("noline 0 60 0000000000000000 0 0", CertCode::Number),
+    ("noline 10000 60 0000000000000000 0 0", CertCode::Limit),
+    ("noline 1 4294967296 0000000000000000 0 0", CertCode::Limit),
+    ("noline 1 60 000000000000000 0 0", CertCode::Number),
+    ("noline 1 60 00000000000000000 0 0", CertCode::Number),
+    ("noline 1 60 000000000000000A 0 0", CertCode::Number),
+    ("noline 1 60 000000000000000g 0 0", CertCode::Number),
+    ("noline 1 60 0000000000000000 2 0", CertCode::Number),
+    ("noline 1 60 0000000000000000 0 2", CertCode::Number),
+    ("noline 1 60 0000000000000000 0 0 f672", CertCode::Number),
+    ("noline 1 60 0000000000000000 0 0 f672:", CertCode::Number),
+    ("noline 1 60 0000000000000000 0 0 f672:01", CertCode::Number),
+    ("noline 1 60 0000000000000000 0 0 f168:1", CertCode::Number),
+    (
+        "noline 1 60 0000000000000000 0 0 f672:4294967296",
+        CertCode::Limit,
+    ),
+    (
+        "noline 10000 60 0000000000000000 0 0 f672:x",
+        CertCode::Number,
+    ),
+    ("weights", CertCode::Number),
+    ("weights 201", CertCode::Limit),
+    ("weights 201 x", CertCode::Number),
+    ("weights 0 -0", CertCode::Number),
+    ("weights 0 -", CertCode::Number),
+    ("weights 0 00", CertCode::Number),
+    ("weights 0 -2147483648", CertCode::Limit),
+    ("weights 0 2147483648 1 --1", CertCode::Number),
+];
+
+#[test]
+fn items_have_faults(rt: HostRuntime) -> Result<(), Fail> {
+    let alloc = rt.alloc();
+    for (line, code) in ITEMS {
+        let text = format!(in alloc; "pbs-certificate 1\nnone\nproof 1\n{line}\nend\n")?;
+        assert_fault(&rt, alloc, text.as_bytes(), 4, code)?;
+    }
+    Ok(())
+}
+
+/// Texts, the line of their fault and its code.
+const TEXTS: [(&[u8], u32, CertCode); 34] = [
+    (b"", 1, CertCode::Short),
+    (b"pbs-certificate 1", 1, CertCode::Short),
+    (b"x", 1, CertCode::Short),
+    (b"\n", 1, CertCode::Version),
+    (b"pbs-certificate\n", 1, CertCode::Version),
+    (b"pbs-certificate 2\n", 1, CertCode::Version),
+    (b"pbs-certificate 1 \n", 1, CertCode::Version),
+    (b"pbs-certificate 1\r\n", 1, CertCode::Version),
+    (b"pbs-certificate  1\n", 1, CertCode::Version),
+    (b"pbs-certificate 1\n", 2, CertCode::Short),
+    (b"pbs-certificate 1\n\n", 2, CertCode::Word),
+    (b"pbs-certificate 1\nend\n", 2, CertCode::Word),
+    (b"pbs-certificate 1\nnone \n", 2, CertCode::Word),
+    (b"pbs-certificate 1\nnone 1\n", 2, CertCode::Word),
+    (b"pbs-certificate 1\naward\n", 2, CertCode::Number),
+    (b"pbs-certificate 1\naward 1\n", 2, CertCode::Number),
+    (b"pbs-certificate 1\naward 1 1 1\n", 2, CertCode::Number),
+    (b"pbs-certificate 1\naward 201 0\n", 2, CertCode::Limit),
+    (b"pbs-certificate 1\naward 200 12801\n", 2, CertCode::Limit),
+    (b"pbs-certificate 1\naward 201 x\n", 2, CertCode::Number),
+    (
+        b"pbs-certificate 1\naward 0 0\nproof 0\n",
+        3,
+        CertCode::Word,
+    ),
+    (b"pbs-certificate 1\naward 0 0\nend \n", 3, CertCode::Word),
+    (
+        b"pbs-certificate 1\naward 0 0\nend\n\n",
+        4,
+        CertCode::Trailing,
+    ),
+    (
+        b"pbs-certificate 1\naward 0 0\nend\nx",
+        4,
+        CertCode::Trailing,
+    ),
+    (b"pbs-certificate 1\naward 0 0\nend", 3, CertCode::Short),
+    (b"pbs-certificate 1\naward 1 0\nend\n", 3, CertCode::Word),
+    (
+        b"pbs-certificate 1\naward 1 0\nproof 40002\n",
+        3,
+        CertCode::Limit,
+    ),
+    (
+        b"pbs-certificate 1\naward 0 1\nshown 2 0\n",
+        3,
+        CertCode::Number,
+    ),
+    (
+        b"pbs-certificate 1\naward 0 1\nshown 0 201\n",
+        3,
+        CertCode::Limit,
+    ),
+    (
+        b"pbs-certificate 1\naward 0 1\nshown 0 1\nline 1 1\n",
+        4,
+        CertCode::Number,
+    ),
+    (
+        b"pbs-certificate 1\naward 0 1\nshown 0 1\nline 10 9\n",
+        4,
+        CertCode::Number,
+    ),
+    (
+        b"pbs-certificate 1\naward 0 1\nshown 0 1\nline 9 10000\n",
+        4,
+        CertCode::Limit,
+    ),
+    (
+        b"pbs-certificate 1\naward 0 1\nshown 0 1\nline 99999999999999999999999 99999999999999999999999\n",
+        4,
+        CertCode::Number,
+    ),
+    (
+        b"pbs-certificate 1\naward 0 1\nshown 0 1\nline \n",
+        4,
+        CertCode::Number,
+    ),
+];
+
+#[test]
+fn texts_have_faults(rt: HostRuntime) -> Result<(), Fail> {
+    for (text, line, code) in TEXTS {
+        assert_fault(&rt, rt.alloc(), text, line, code)?;
+    }
+    Ok(())
+}
+
+#[test]
+fn cut_texts_are_short(rt: HostRuntime) -> Result<(), Fail> {
+    let alloc = rt.alloc();
+    let mut line: u32 = 1;
+    for cut in 0..FULL.len() {
+        assert_fault(&rt, alloc, &FULL[..cut], line, CertCode::Short)?;
+        if FULL[cut] == b'\n' {
+            line = line.saturating_add(1);
+        }
+    }
+    assert_eq!(rt; line, 17);
+    Ok(())
+}
+
+/// The windows of the first lens of the full text.
+fn windows(alloc: Global) -> Result<List<Window>, Fail> {
+    let mut windows = Vec::new(alloc);
+    for (kind, start) in [
+        (WindowKind::Flight672, 4_294_967_295),
+        (WindowKind::Duty672, 0),
+        (WindowKind::Duty168, 10),
+        (WindowKind::Flight365, 7),
+    ] {
+        windows.push(Window { kind, start })?;
+    }
+    Ok(List::from_vec(windows))
+}
+
+#[test]
+fn texts_are_read(rt: HostRuntime) -> Result<(), Fail> {
+    let alloc = rt.alloc();
+    let Certificate::Award(awarded) = read_certificate(alloc, FULL)? else {
+        return Err(Fail::from(Memory::NoMemory));
+    };
+    assert_eq!(rt; awarded.proofs.len(), 1);
+    let items = awarded.proofs.as_slice()[0].as_slice();
+    assert_eq!(rt; items.len(), 5);
+    assert_eq!(rt; items[0], Item::Split(0, 9998));
+    assert_eq!(rt; items[1], Item::Count(1));
+    assert_eq!(rt; items[2], Item::Fixed(9));
+    let lens = Lens {
+        grain: 60,
+        tracked: 0x0123_4567_89ab_cdef,
+        free30: true,
+        days: false,
+        windows: windows(alloc)?,
+    };
+    assert_eq!(rt; items[3], Item::NoLine(2, lens));
+    let Item::Weights(weights, lenses) = &items[4] else {
+        return Err(Fail::from(Memory::NoMemory));
+    };
+    assert_eq!(rt;
+        weights.as_slice(),
+        [-2_147_483_647, 2_147_483_647, 0].as_slice()
+    );
+    assert_eq!(rt; lenses.len(), 2);
+    Ok(())
+}
+
+#[test]
+fn shown_parts_are_read(rt: HostRuntime) -> Result<(), Fail> {
+    let alloc = rt.alloc();
+    let Certificate::Award(awarded) = read_certificate(alloc, FULL)? else {
+        return Err(Fail::from(Memory::NoMemory));
+    };
+    assert_eq!(rt; awarded.shown.len(), 2);
+    let shown = awarded.shown.as_slice();
+    let empty: Proof = List::new(alloc);
+    assert_eq!(rt;
+        shown[0],
+        Shown {
+            proof: Some(empty),
+            roster: None
+        }
+    );
+    assert_eq!(rt; shown[1].proof, None);
+    let rows = shown[1]
+        .roster
+        .as_ref()
+        .expect(&rt, "a roster is shown")
+        .as_slice();
+    assert_eq!(rt; rows.len(), 2);
+    assert_eq!(rt; rows[0].pairings(), [0, 9, 9998].as_slice());
+    assert!(rt; rows[1].pairings().is_empty());
+    Ok(())
+}
+
+#[test]
+fn texts_are_printed(rt: HostRuntime) -> Result<(), Fail> {
+    let alloc = rt.alloc();
+    for text in [FULL, NONE] {
+        let certificate = read_certificate(alloc, text)?;
+        assert_eq!(rt; print_certificate(alloc, &certificate)?.as_slice(), text);
+    }
+    Ok(())
+}
