@@ -1,5 +1,6 @@
 //! Runs over files in memory.
 
+mod legality;
 mod months;
 
 use crate::month::read_month;
@@ -312,11 +313,11 @@ fn sixty_four_bids_are_read(rt: HostRuntime) -> Result<(), Fail> {
     assert_bids(&rt, alloc, 65, Status::BadInput, "bad bids.txt 66 1 8\n")
 }
 
-/// The smallest month with these bids.
-fn month_with(rt: &impl Abort, alloc: Global, bids: &[u8]) -> Result<Problem, Fail> {
+/// The smallest month with these files in place of its own.
+fn month_with(rt: &impl Abort, alloc: Global, changed: &[(&str, &[u8])]) -> Result<Problem, Fail> {
     let mut shelf = MemoryShelf::new(alloc, List::new(alloc));
     place_all(rt, alloc, &mut shelf, &SMALLEST)?;
-    place_all(rt, alloc, &mut shelf, &[("bids.txt", bids)])?;
+    place_all(rt, alloc, &mut shelf, changed)?;
     let texts = read_texts(alloc, &mut shelf)
         .ok()
         .expect(rt, "the files are there");
@@ -331,7 +332,7 @@ fn month_with(rt: &impl Abort, alloc: Global, bids: &[u8]) -> Result<Problem, Fa
 fn bids_are_printed(rt: HostRuntime) -> Result<(), Fail> {
     let alloc = rt.alloc();
     for (bids, text) in &PRINTED {
-        let problem = month_with(&rt, alloc, bids)?;
+        let problem = month_with(&rt, alloc, &[("bids.txt", *bids)])?;
         let printed = print_bids(alloc, &problem)?;
         assert_eq!(rt; printed.as_slice(), *text);
     }
