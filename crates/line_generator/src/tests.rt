@@ -13,8 +13,8 @@ use duty_calendar::{
     Base, Duty, Flown, Horizon, Leg, List, Member, Memory, Name, Pairing, Rules, Station,
 };
 use label_lattice::Steps;
-use line_lens::{LensFault, standard_lens};
-use roster_model::{Bid, Decision, Goal, Lens, Node, Problem, Wish};
+use line_lens::{LensFault, lens_line, line_graph, standard_lens};
+use roster_model::{Bid, Decision, Goal, Lens, Line, Node, Problem, Wish};
 use std::alloc::Global;
 use std::marker::Brand;
 use std::sync::ledger::{Blank, Ledger};
@@ -357,5 +357,34 @@ fn reaches_the_floor_of_a_member(rt: HostRuntime) -> Result<(), BestFault> {
             Err(BestFault::Lens(LensFault::Grain))
         )
     );
+    Ok(())
+}
+
+/// What the places of the first member's graph add to lines, and whether the line of the first pairing passes.
+fn of_first(alloc: Global, problem: &Problem) -> Result<(List<u32>, bool), Memory>
+    requires some { 0 < length problem.now.base.members }
+    requires one { length problem.now.base.pairings ≡ 1 }
+{
+    let goal = Goal {
+        floors: List::new(alloc),
+        grant: None,
+    };
+    let node = Node::new(alloc);
+    let lens = standard_lens(alloc, problem, 0);
+    let graph = line_graph::<0>(alloc, problem, 0, &goal, &node, &lens, &[1])?;
+    let Some(line) = Line::new(with(List::new(alloc), 0)?) else {
+        return Err(Memory::NoMemory);
+    };
+    let passes = lens_line(alloc, problem, 0, &goal, &node, &lens, &line)?;
+    Ok((graph.places, passes))
+}
+
+#[test]
+fn a_line_passes_and_is_a_chain(rt: HostRuntime) -> Result<(), BestFault> {
+    let alloc = rt.alloc();
+    let problem = alone(alloc, tenth(alloc, 300)?, 0, 5400)?;
+    let (places, passes) = of_first(alloc, &problem)?;
+    assert!(rt; places.as_slice() == [1, 0, 1].as_slice());
+    assert!(rt; passes);
     Ok(())
 }
