@@ -1,4 +1,3 @@
-pub mod Relaxation
 pub mod Paths
 pub mod Walking
 pub mod Sums

@@ -1,5 +1,8 @@
 pub mod Counting
 pub mod Lines
+pub mod Relaxation
+pub mod WeightSums
+pub mod Duality
 pub mod Soundness
 pub mod Greatest
 pub mod Turn

@@ -21,7 +21,7 @@ use Rattle.roster_model.specs.Timelines.{pairings_of, fixed_of, events_of, comin
 use Rattle.roster_model.specs.Scores.{is_granting, is_granted, bids_of, days_off}
 use Rattle.roster_model.specs.Legality.{low_of, high_of}
 use Rattle.roster_model.specs.Goals.{Obeys}
-use Rattle.roster_model.specs.Weights.{weight_of, needed_weight, total}
+use Rattle.roster_model.specs.Weights.{AreSmallWeights, weight_of, needed_weight, total}
 
 -- whether one pairing of a line can decide the wish
 abbrev pub is_trackable : Wish → Bool
@@ -140,13 +140,23 @@ pub record IsBestWeight (problem : Problem) (member : ℕ) (goal : Goal) (node :
   pub attained : (line : List ℕ) × IsLensLine problem member goal node lens line × (weight_of weights line ≡ best)
   pub most : IsMostWeight problem member goal node lens weights best
 
+-- each member has a lens of the shape
+abbrev pub AreLenses : Problem → List Lens → Type 0
+AreLenses problem lenses = (m : ℕ) (lens : Lens) → slice_get lenses m ≡ Some lens → IsLens problem m lens
+
+-- the greatest weight for each member's lens
+abbrev pub AreBestWeights : Problem → Goal → List Decision → List ℤ → List Lens → List ℤ → Type 0
+AreBestWeights problem goal node weights lenses bests =
+    (m : ℕ) (lens : Lens) (best : ℤ) → slice_get lenses m ≡ Some lens → slice_get bests m ≡ Some best
+    → IsBestWeight problem m goal node lens weights best
+
 -- the best lines, one for each member's lens, weigh less together than what is needed
 pub record IsOutweighed (problem : Problem) (goal : Goal) (node : List Decision) (weights : List ℤ) (lenses : List Lens) : Type 0 where
   pub per_pairing : length weights ≡ length problem.base.pairings
   pub per_member : length lenses ≡ length problem.base.members
+  pub small : AreSmallWeights weights
+  pub shapes : AreLenses problem lenses
   pub bests : List ℤ
   pub each : length bests ≡ length problem.base.members
-  pub best :
-      (m : ℕ) (lens : Lens) (value : ℤ) → slice_get lenses m ≡ Some lens → slice_get bests m ≡ Some value
-      → IsBestWeight problem m goal node lens weights value
+  pub best : AreBestWeights problem goal node weights lenses bests
   pub less : total bests <ℤ needed_weight problem weights

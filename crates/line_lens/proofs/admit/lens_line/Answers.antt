@@ -4,7 +4,7 @@ use Rattle.line_lens.specs.Items.{item_count}
 use Rattle.line_lens.specs.Passes.{is_stop}
 use Rattle.line_lens.proofs.ItemOrder.{items_few}
 use Rattle.line_lens.proofs.LensWalks.{stops_are, walks_lens_line}
-use Rattle.line_lens.proofs.Relaxation.{relaxation}
+use Rattle.roster_model.proofs.Relaxation.{relaxation}
 use Rattle.line_lens.proofs.admit.lens_line.Goals as goal
 
 pub returns-in_err-weights-clause-relaxed : goal.returns-in_err-weights-clause-relaxed
