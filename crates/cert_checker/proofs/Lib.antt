@@ -1,4 +1,7 @@
 pub mod Turned
+pub mod Shapes
+pub mod Together
+pub mod Nodes
 pub mod Excluded
 pub mod Stopped
 pub mod Lines

@@ -24,8 +24,8 @@ stuck : (problem : Problem) (goal : Goal) (node : List Decision) (behind after :
 stuck problem goal node behind after (Split m p) items why h w = split_excluded problem node m p why w.0 h
 stuck problem goal node behind after (Count p) items why h w = leaf_excluded problem goal node (Count p) why w.0 h
 stuck problem goal node behind after (Fixed m) items why h w = leaf_excluded problem goal node (Fixed m) why w.0 h
-stuck problem goal node behind after (NoLine m lens) items why h w = h
-stuck problem goal node behind after (Weights ys lenses) items why h w = h
+stuck problem goal node behind after (NoLine m lens) items why h w = leaf_excluded problem goal node (NoLine m lens) why w.0 h
+stuck problem goal node behind after (Weights ys lenses) items why h w = leaf_excluded problem goal node (Weights ys lenses) why w.0 h
 
 -- what is at a place, and the rest behind it
 drop_item : (items : List Item) (at : ℕ) (item : Item) → slice_get items at ≡ Some item

@@ -1,12 +1,16 @@
 -- What the parts of the judge's answer say together.
-use Rattle.std.proofs.Common.{◌≡◌, ℕ, List, length, sym, ap, subst, ◌∙◌}
+use Rattle.std.proofs.Common.{◌≡◌, ℕ, List, [], None, Some, length, sym, ap, subst, ◌∙◌, arith}
+use Rattle.std.proofs.lemmas.Bool.{false≢true}
 use Rattle.std.proofs.lemmas.Option.{slice_get_within}
 use Rattle.roster_model.specs.declared.problem.Problem.{Problem}
 use Rattle.roster_model.specs.declared.proof.Item.{Item}
 use Rattle.roster_model.specs.Rosters.{IsComplete, scores_of}
-use Rattle.roster_model.specs.Awards.{IsBest, above_at}
+use Rattle.roster_model.specs.Awards.{IsBest, HasNoRoster, above_at, no_goal}
+use Rattle.roster_model.specs.Closing.{Closes}
+use Rattle.roster_model.proofs.Soundness.{closes_sound}
 use Rattle.cert_checker.specs.declared.refusal.No.{No}
 use Rattle.cert_checker.specs.declared.refusal.No.TheVariants as no
+use Rattle.cert_checker.specs.Stops.{Stops}
 use Rattle.cert_checker.specs.Awards.{AreClosed, IsFirstOfPlaces, IsFirstNo, NamesFault}
 use Rattle.cert_checker.proofs.Stopped.{stopped}
 
@@ -75,3 +79,27 @@ pub refused_of : (problem : Problem) (roster : List (List ℕ)) (proofs slice : 
     → IsFirstOfPlaces problem scores slice why → NamesFault why → IsBest problem roster proofs → ⊥
 refused_of problem roster proofs slice scores why e s h =
     refused_places problem roster proofs why (moved problem roster proofs slice scores why e s h)
+
+-- where no goal is met, no roster is complete
+pub none_complete : (problem : Problem) (items : List Item) → Closes problem no_goal [] items → HasNoRoster problem
+none_complete problem items closes roster complete =
+    closes_sound problem no_goal [] items closes roster complete
+    (λ m in_range. record {
+      floor = λ floor at. absurd (let past = slice_get_within [] m floor at in omega arith);
+      grant = λ b e mine. absurd (let none : None ≡ Some b = e in cc);
+    })
+    (λ m in_range p flies h. absurd (false≢true h))
+
+-- the same of a goal that holds no floors, and of a slice that holds the items
+pub none_closed : (problem : Problem) (items slice : List Item) (floors : List ℕ) → floors ≡ [] → slice ≡ items
+    → Closes problem (record { floors = floors; grant = None }) [] slice → Closes problem no_goal [] items
+none_closed problem items slice floors e s closes =
+    subst (λ (xs : List Item). Closes problem no_goal [] xs) s
+    (subst (λ (fs : List ℕ). Closes problem (record { floors = fs; grant = None }) [] slice) e closes)
+
+pub none_refused : (problem : Problem) (items slice : List Item) (floors : List ℕ) (why : No) → floors ≡ [] → slice ≡ items
+    → Stops problem (record { floors = floors; grant = None }) 0 slice why → NamesFault why → Closes problem no_goal [] items → ⊥
+none_refused problem items slice floors why e s stops =
+    stopped problem no_goal 0 items why
+    (subst (λ (xs : List Item). Stops problem no_goal 0 xs why) s
+    (subst (λ (fs : List ℕ). Stops problem (record { floors = fs; grant = None }) 0 slice why) e stops))

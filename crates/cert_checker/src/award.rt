@@ -5,16 +5,17 @@ ghost use Rattle.roster_model.specs.declared.node.Decision.{Decision};
 ghost use Rattle.roster_model.specs.declared.proof.Item.{Item as Step};
 ghost use Rattle.roster_model.specs.Closing.{Closes, IsHopeless};
 ghost use Rattle.roster_model.specs.Rosters.{IsComplete};
-ghost use Rattle.roster_model.specs.Awards.{above_at, IsBest, IsGreatest};
-ghost use Rattle.cert_checker.specs.Given.{AreInRange, HasPlainItems, IsCountable, IsPlain};
+ghost use Rattle.roster_model.specs.Awards.{above_at, no_goal, HasNoRoster, IsBest, IsGreatest};
+ghost use Rattle.cert_checker.specs.Given.{AreInRange, HasSmallWeights, HaveSmallWeights, IsCountable, IsCountableProof};
 ghost use Rattle.cert_checker.specs.Stops.{Stops};
 ghost use Rattle.cert_checker.specs.Awards.{AreClosed, IsFirstNo, IsFirstOfPlaces, NamesFault};
 
 use crate::goals::{goal_above, scores_of};
 use crate::refusal::No;
 use crate::walk::first_fault;
+use duty_calendar::List;
 use line_legality::{RosterFault, complete};
-use roster_model::{Awarded, Item, Problem, Proof, Reasons, Roster};
+use roster_model::{Awarded, Goal, Item, Problem, Proof, Reasons, Roster};
 use std::alloc::Global;
 
 /// Whether the award is accepted, else the first test that fails: the lines in order, the crews of the pairings in
@@ -30,7 +31,7 @@ pub fn judge(
     requires pairings { AreInRange problem.now roster.now }
     requires no_reasons { reasons.now ≡ [] }
     requires none_shown { awarded.now.shown ≡ [] }
-    requires plain { HasPlainItems awarded.now.proofs }
+    requires small { HaveSmallWeights awarded.now.proofs }
     requires countable { IsCountable awarded.now.proofs }
     ensures accepted { OnOk result (IsBest problem.now roster.now awarded.now.proofs) }
     ensures first { IfErr result (IsFirstNo problem.now roster.now awarded.now.proofs) }
@@ -46,6 +47,23 @@ pub fn judge(
     }
     let scores = scores_of(alloc, problem, roster)?;
     places(alloc, problem, scores.as_slice(), proofs)
+}
+
+/// Whether the proof shows that there is no complete roster, else what is wrong with it. Its search is number 0.
+pub fn judge_none(alloc: Global, problem: &Problem, proof: &Proof) -> Result<(), No>
+    requires small { All HasSmallWeights proof.now }
+    requires countable { IsCountableProof proof.now }
+    ensures accepted { OnOk result (Closes problem.now no_goal [] proof.now) }
+    ensures first { IfErr result (Stops problem.now no_goal 0 proof.now) }
+    ensures refused { IfErr result (λ why. NamesFault why → Closes problem.now no_goal [] proof.now → ⊥) }
+    ensures none { OnOk result (HasNoRoster problem.now) }
+    ensures sound { (goal : Aim) (node : Sequence Decision) (items : Sequence Step) → Closes problem.now goal node items → IsHopeless problem.now goal node }
+{
+    let goal = Goal {
+        floors: List::new(alloc),
+        grant: None,
+    };
+    first_fault(alloc, problem, &goal, 0, proof.as_slice())
 }
 
 /// The first line that is illegal, else the first pairing without its crew.
@@ -69,7 +87,7 @@ fn places(alloc: Global, problem: &Problem, scores: &[u32], proofs: &[Proof]) ->
     requires members { length scores.now ≡ length problem.now.base.members }
     requires amount { length proofs.now ≡ length scores.now }
     requires room { All (λ s. s + 1 < 2 ^ 32) scores.now }
-    requires plain { HasPlainItems proofs.now }
+    requires small_weights { HaveSmallWeights proofs.now }
     requires countable { IsCountable proofs.now }
     ensures closed { OnOk result (AreClosed problem.now scores.now proofs.now (length proofs.now)) }
     ensures fault { IfErr result (IsFirstOfPlaces problem.now scores.now proofs.now) }
@@ -92,8 +110,8 @@ fn judge_place(
     requires place { place < length scores.now }
     requires room { All (λ s. s + 1 < 2 ^ 32) scores.now }
     requires small { place < 2 ^ 32 }
-    requires plain { All IsPlain items.now }
-    requires countable { length items.now < 2 ^ 32 }
+    requires small_weights { All HasSmallWeights items.now }
+    requires countable { IsCountableProof items.now }
     ensures closed { OnOk result (Closes problem.now (above_at scores.now place) [] items.now) }
     ensures fault { IfErr result (Stops problem.now (above_at scores.now place) place items.now) }
 {

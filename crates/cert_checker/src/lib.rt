@@ -3,13 +3,16 @@
 #![tactic(auto)]
 
 mod award;
+mod bests;
 mod count;
 mod fixed;
 mod goals;
+mod noline;
 mod refusal;
 mod split;
 mod walk;
+mod weights;
 
-pub use award::judge;
+pub use award::{judge, judge_none};
 pub use goals::scores_of;
 pub use refusal::{ItemFault, No};

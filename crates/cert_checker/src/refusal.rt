@@ -2,10 +2,11 @@
 
 use duty_calendar::Memory;
 use line_legality::Illegal;
+use line_lens::LensFault;
 use std::alloc::AllocError;
 use thiserror::Error;
 
-/// What is wrong with an item of a closing proof. Pairings are numbers from 0.
+/// What is wrong with an item of a closing proof. Members and pairings are numbers from 0.
 #[derive(Clone, Copy, PartialEq, Eq, Debug, Error)]
 pub enum ItemFault {
     /// A member or pairing that is none of the problem. Code 1.
@@ -23,6 +24,21 @@ pub enum ItemFault {
     /// The member's line is legal and meets the goal. Code 5.
     #[error("the member's line fits")]
     Fits,
+    /// The member's lens has not its shape, and its first fault. Code 6.
+    #[error("the lens of member {0}: {1}")]
+    Lens(u32, LensFault),
+    /// A line of the member passes the lens. Code 7.
+    #[error("a line of member {0} passes the lens")]
+    Line(u32),
+    /// No line of the member passes the lens. Code 8.
+    #[error("no line of member {0} passes the lens")]
+    Nothing(u32),
+    /// The best lines weigh so much together, and the crews that are needed no more. Code 9.
+    #[error("the lines weigh {0} and the needs {1}")]
+    Sum(i64, i64),
+    /// So many weights and so many lenses, and not one for each pairing and one for each member. Code 10.
+    #[error("{0} weights and {1} lenses")]
+    Width(u32, u32),
 }
 
 /// The first test of an award that fails. Members, pairings, bids, searches and items are numbers from 0, and the

@@ -1,17 +1,19 @@
 //! The walk over the items of a closing proof.
-ghost use Rattle.std.specs.Prelude.{◌^◌, ◌<◌, [], ◌∷◌, length, All, OnOk, IfOk, IfErr};
+ghost use Rattle.std.specs.Prelude.{◌≡◌, ◌^◌, ◌<◌, [], ◌∷◌, true, length, All, OnOk, IfOk, IfErr};
 ghost use Rattle.roster_model.specs.Decided.{nodes_behind, open_nodes};
 ghost use Rattle.roster_model.specs.Closing.{Closes};
-ghost use Rattle.roster_model.specs.Goals.{IsGoal};
+ghost use Rattle.roster_model.specs.Goals.{IsGoal, IsNode};
 ghost use Rattle.roster_model.specs.Walk.{Leads};
-ghost use Rattle.cert_checker.specs.Given.{IsPlain};
+ghost use Rattle.cert_checker.specs.Given.{HasFewParts, HasSmallWeights, IsCountableProof};
 ghost use Rattle.cert_checker.specs.Faults.{Fails, IsStepFault};
 ghost use Rattle.cert_checker.specs.Stops.{Stops};
 
 use crate::count::count;
 use crate::fixed::fixed;
+use crate::noline::noline;
 use crate::refusal::{No, StepFault};
 use crate::split::split;
+use crate::weights::outweighed;
 use roster_model::{Goal, Item, Node, Problem};
 use std::alloc::Global;
 
@@ -24,8 +26,11 @@ fn step(
     item: &Item,
 ) -> Result<bool, StepFault>
     requires goal { IsGoal problem.now goal.now }
-    requires plain { IsPlain item.now }
+    requires node { IsNode problem.now node.old }
+    requires small { HasSmallWeights item.now }
+    requires countable { HasFewParts item.now }
     ensures goes { IfOk result (λ is_open. Leads problem.now goal.now (node.old ∷ nodes_behind node.old) (item.now ∷ []) (open_nodes is_open node.new)) }
+    ensures node { IfOk result (λ is_open. is_open ≡ true → IsNode problem.now node.new) }
     ensures fault { IfErr result (IsStepFault (Fails problem.now goal.now node.old item.now)) }
 {
     match item {
@@ -41,7 +46,21 @@ fn step(
             fixed(alloc, problem, goal, node, *member)?;
             Ok(node.turn())
         }
-        Item::NoLine(_, _) | Item::Weights(_, _) => unreachable!(),
+        Item::NoLine(member, lens) => {
+            noline(alloc, problem, goal, node, *member, lens)?;
+            Ok(node.turn())
+        }
+        Item::Weights(weights, lenses) => {
+            outweighed(
+                alloc,
+                problem,
+                goal,
+                node,
+                weights.as_slice(),
+                lenses.as_slice(),
+            )?;
+            Ok(node.turn())
+        }
     }
 }
 
@@ -54,8 +73,8 @@ pub(crate) fn first_fault(
     items: &[Item],
 ) -> Result<(), No>
     requires goal { IsGoal problem.now goal.now }
-    requires plain { All IsPlain items.now }
-    requires countable { length items.now < 2 ^ 32 }
+    requires small { All HasSmallWeights items.now }
+    requires countable { IsCountableProof items.now }
     ensures closed { OnOk result (Closes problem.now goal.now [] items.now) }
     ensures fault { IfErr result (Stops problem.now goal.now search items.now) }
 {

@@ -1,0 +1,14 @@
+use Rattle.std.proofs.Common.{ℤ, FitsSigned, w64, rules, sym, subst}
+use Rattle.std.proofs.lemmas.Int.{to_z-of_z}
+use Rattle.cert_checker.specs.Bests.{IsWithin}
+use Rattle.cert_checker.proofs.Taken.{some_at}
+use Rattle.cert_checker.proofs.Together.{line_within}
+use Rattle.cert_checker.proofs.bests.best_weight.Goals as goal
+
+pub returns-in-Ok-Some-clause-within : goal.returns-in-Ok-Some-clause-within
+returns-in-Ok-Some-clause-within c =
+    let range : FitsSigned w64 c.in-Ok-Some.priced.weight = search rules in
+    subst (λ (z : ℤ). IsWithin 1288490188200 z) (sym (to_z-of_z w64 c.in-Ok-Some.priced.weight range))
+    (line_within c.args.problem.now c.args.member c.args.goal.now c.args.node.now c.args.lens.now c.args.weights.now _ c.in-Ok-Some.priced.weight c.requires.small
+    (some_at c.in-Ok-Some.field-0 c.in-Ok-Some.priced _ c.in-Ok-Some.field-0-is c.in-Ok-Some.ensures.line)
+    (some_at c.in-Ok-Some.field-0 c.in-Ok-Some.priced _ c.in-Ok-Some.field-0-is c.in-Ok-Some.ensures.weight))
