@@ -1,17 +1,27 @@
 -- How `check` ends, from what its stages answer.
-use Rattle.std.proofs.Common.{◌≡◌, ℕ, Bool, true, false, cond, ltb, List, length, Option, Some, None, Result, Ok, Err, ap, inl, inr}
+use Rattle.std.proofs.Common.{◌≡◌, ℕ, Bool, true, false, cond, ltb, List, [], length, Option, Some, None, Result, Ok, Err, refl, ap, inl, inr, ◌<◌}
 use Rattle.shelf.specs.Files.{Files, file}
 use Rattle.roster_model.specs.declared.problem.Problem.{Problem}
 use Rattle.roster_model.specs.declared.proof.Item.{Item}
+use Rattle.roster_model.specs.declared.award.Awarded.{Awarded}
+use Rattle.roster_model.specs.declared.award.Certificate.{Certificate}
+use Rattle.roster_model.specs.declared.award.Certificate.TheVariants.{Award, NoRoster}
+use Rattle.cert_text.specs.declared.fault.CertCode.{CertCode}
+use Rattle.cert_text.specs.declared.fault.CertCode.TheVariants as cert
+use Rattle.cert_text.specs.declared.fault.CertFault.{CertFault}
+use Rattle.cert_text.specs.Lines.{FailsBy}
+use Rattle.cert_text.specs.Reading.{certificate_in}
 use Rattle.pbs_engine.specs.FileNames.{name_of, limit_of}
 use Rattle.pbs_engine.specs.declared.file.File.{File}
-use Rattle.pbs_engine.specs.declared.file.File.TheVariants.{Rules, Pairings, Duties, Legs, Crew, History, Fixed, Bids, Certificate, Roster}
+use Rattle.pbs_engine.specs.declared.file.File.TheVariants.{Rules, Pairings, Duties, Legs, Crew, History, Fixed, Bids, Certificate as CertificateFile, Roster}
 use Rattle.pbs_engine.specs.declared.stop.Stop.{Stop}
 use Rattle.pbs_engine.specs.declared.stop.Stop.TheVariants as stop
 use Rattle.pbs_engine.specs.declared.stop.Refusal.TheVariants as refusal
+use Rattle.pbs_engine.specs.declared.verdict.Verdict.{Verdict}
+use Rattle.pbs_engine.specs.declared.verdict.Verdict.TheVariants as verdict
 use Rattle.pbs_engine.specs.Reading.{◌>>=◌, StopIs, within, text_in, texts_in}
-use Rattle.pbs_engine.specs.Checks.{Given, given_in, NamesProblem, NamesProofs, NamesAll, Judges, IsCheck}
-use Rattle.pbs_engine.specs.Stages.{Ends, AreProofsOf, IsRosterOf}
+use Rattle.pbs_engine.specs.Checks.{Given, given_in, NamesProblem, NamesCertificate, NamesAward, NamesAll, JudgesAward, JudgesNone, IsCheck}
+use Rattle.pbs_engine.specs.Stages.{Ends, cert_stop, IsCertificateOf, IsRosterOf}
 use Rattle.pbs_engine.specs.Months.{Names}
 
 -- the end of a reading: a file that is missing or too long
@@ -70,7 +80,7 @@ texts_end files =
 given_ends : (files : Files) (e : Stop) → given_in files ≡ Err e → IsReadEnd e
 unfolding given_in
 given_ends files =
-    bind_ends _ _ (texts_end files) (λ inputs. bind_ends _ _ (text_ends files Certificate) (λ certificate. no_end _))
+    bind_ends _ _ (texts_end files) (λ inputs. bind_ends _ _ (text_ends files CertificateFile) (λ certificate. no_end _))
 
 -- ---- the ends
 
@@ -96,56 +106,92 @@ module _ (files : Files) (given : Given) (read : given_in files ≡ Ok given) (p
   named : NamesProblem files given problem
   named = record { read = read; names = names }
 
-  pub ends_at_proofs : (e : Stop) → AreProofsOf given.certificate (Err e) → IsCheck files (Err e)
-  ends_at_proofs (stop.BadInput fault) h = absurd h
-  ends_at_proofs (stop.NotYet f) h = record { given = given; problem = problem; before = named; later = h.1; here = h.0 }
-  ends_at_proofs (stop.No refusal.Certificate) h = record { given = given; problem = problem; before = named; no_later = h.no_later; unread = h.read }
-  ends_at_proofs (stop.No refusal.Roster) h = absurd h
-  ends_at_proofs (stop.No (refusal.Judged why)) h = absurd h
-  ends_at_proofs (stop.Missing f) h = absurd h
-  ends_at_proofs (stop.ReadFault f) h = tt
-  ends_at_proofs (stop.TooLong f) h = absurd h
-  ends_at_proofs stop.NoMemory h = tt
+  pub ends_at_certificate : (e : Stop) → IsCertificateOf given.certificate (Err e) → IsCheck files (Err e)
+  ends_at_certificate (stop.BadInput fault) h = absurd h
+  ends_at_certificate (stop.NotYet f) h = absurd h
+  ends_at_certificate (stop.No (refusal.Certificate fault)) h = record { given = given; problem = problem; before = named; unread = h }
+  ends_at_certificate (stop.No refusal.Roster) h = absurd h
+  ends_at_certificate (stop.No (refusal.Judged why)) h = absurd h
+  ends_at_certificate (stop.Missing f) h = absurd h
+  ends_at_certificate (stop.ReadFault f) h = tt
+  ends_at_certificate (stop.TooLong f) h = absurd h
+  ends_at_certificate stop.NoMemory h = tt
 
-  module _ (proofs : List (List Item)) (are : AreProofsOf given.certificate (Ok proofs)) where
-    proved : NamesProofs files problem proofs
-    proved = record { given = given; before = named; no_later = are.no_later; read = are.read }
+  pub names_certificate : (certificate : Certificate) → IsCertificateOf given.certificate (Ok certificate) → NamesCertificate files problem certificate
+  names_certificate certificate h = record { given = given; before = named; read = h }
 
-    pub ends_at_text : (e : Stop) → StopIs e (text_in files Roster) → IsCheck files (Err e)
-    ends_at_text (stop.BadInput fault) h = absurd (text_ends files Roster (stop.BadInput fault) h)
-    ends_at_text (stop.NotYet f) h = absurd (text_ends files Roster (stop.NotYet f) h)
-    ends_at_text (stop.No why) h = absurd (text_ends files Roster (stop.No why) h)
-    ends_at_text (stop.Missing f) h = inr (record { problem = problem; proofs = proofs; before = proved; ends = h })
-    ends_at_text (stop.ReadFault f) h = tt
-    ends_at_text (stop.TooLong f) h = inr (record { problem = problem; proofs = proofs; before = proved; ends = h })
-    ends_at_text stop.NoMemory h = tt
+-- the form without a roster
+pub judged_none : (files : Files) (problem : Problem) (proof : List Item) → NamesCertificate files problem (NoRoster proof)
+    → (r : Result Verdict Stop) → JudgesNone problem proof r → IsCheck files r
+judged_none files problem proof is (Ok (verdict.Award scores)) h = absurd h
+judged_none files problem proof is (Ok verdict.NoRoster) h = record { problem = problem; proof = proof; named = is; judged = h }
+judged_none files problem proof is (Err (stop.BadInput fault)) h = absurd h
+judged_none files problem proof is (Err (stop.NotYet f)) h = absurd h
+judged_none files problem proof is (Err (stop.No (refusal.Certificate fault))) h = absurd h
+judged_none files problem proof is (Err (stop.No refusal.Roster)) h = absurd h
+judged_none files problem proof is (Err (stop.No (refusal.Judged why))) h = inr (record { problem = problem; proof = proof; named = is; judged = h })
+judged_none files problem proof is (Err (stop.Missing f)) h = absurd h
+judged_none files problem proof is (Err (stop.ReadFault f)) h = tt
+judged_none files problem proof is (Err (stop.TooLong f)) h = absurd h
+judged_none files problem proof is (Err stop.NoMemory) h = tt
 
-    module _ (text : List ℕ) (there : text_in files Roster ≡ Ok text) where
-      pub ends_at_roster : (e : Stop) → IsRosterOf problem text (Err e) → IsCheck files (Err e)
-      ends_at_roster (stop.BadInput fault) h = absurd h
-      ends_at_roster (stop.NotYet f) h = absurd h
-      ends_at_roster (stop.No refusal.Certificate) h = absurd h
-      ends_at_roster (stop.No refusal.Roster) h = record { problem = problem; proofs = proofs; before = proved; text = text; there = there; unread = h }
-      ends_at_roster (stop.No (refusal.Judged why)) h = absurd h
-      ends_at_roster (stop.Missing f) h = absurd h
-      ends_at_roster (stop.ReadFault f) h = tt
-      ends_at_roster (stop.TooLong f) h = absurd h
-      ends_at_roster stop.NoMemory h = tt
+-- the form of an award
+pub ends_at_shown : (files : Files) (problem : Problem) (awarded : Awarded) → NamesCertificate files problem (Award awarded)
+    → 0 < length awarded.shown → IsCheck files (Err (stop.NotYet CertificateFile))
+ends_at_shown files problem awarded named some =
+    record { problem = problem; awarded = awarded; before = named; some = some; here = refl }
 
-      pub judged : (roster : List (List ℕ)) → IsRosterOf problem text (Ok roster) → (r : Result (List ℕ) Stop) → Judges problem roster proofs r → IsCheck files r
-      judged roster is r h = by r h
-        where
-          all : NamesAll files problem proofs roster
-          all = record { before = proved; text = text; there = there; read = is }
+module _ (files : Files) (problem : Problem) (awarded : Awarded) (named : NamesCertificate files problem (Award awarded)) (none : awarded.shown ≡ []) where
+  plain : NamesAward files problem awarded
+  plain = record { before = named; none_shown = none }
 
-          by : (r : Result (List ℕ) Stop) → Judges problem roster proofs r → IsCheck files r
-          by (Ok scores) h = record { problem = problem; proofs = proofs; roster = roster; named = all; judged = h }
-          by (Err (stop.BadInput fault)) h = absurd h
-          by (Err (stop.NotYet f)) h = absurd h
-          by (Err (stop.No refusal.Certificate)) h = absurd h
-          by (Err (stop.No refusal.Roster)) h = absurd h
-          by (Err (stop.No (refusal.Judged why))) h = record { problem = problem; proofs = proofs; roster = roster; named = all; judged = h }
-          by (Err (stop.Missing f)) h = absurd h
-          by (Err (stop.ReadFault f)) h = tt
-          by (Err (stop.TooLong f)) h = absurd h
-          by (Err stop.NoMemory) h = tt
+  pub ends_at_text : (e : Stop) → StopIs e (text_in files Roster) → IsCheck files (Err e)
+  ends_at_text (stop.BadInput fault) h = absurd (text_ends files Roster (stop.BadInput fault) h)
+  ends_at_text (stop.NotYet f) h = absurd (text_ends files Roster (stop.NotYet f) h)
+  ends_at_text (stop.No why) h = absurd (text_ends files Roster (stop.No why) h)
+  ends_at_text (stop.Missing f) h = inr (record { problem = problem; awarded = awarded; before = plain; ends = h })
+  ends_at_text (stop.ReadFault f) h = tt
+  ends_at_text (stop.TooLong f) h = inr (record { problem = problem; awarded = awarded; before = plain; ends = h })
+  ends_at_text stop.NoMemory h = tt
+
+  module _ (text : List ℕ) (there : text_in files Roster ≡ Ok text) where
+    pub ends_at_roster : (e : Stop) → IsRosterOf problem text (Err e) → IsCheck files (Err e)
+    ends_at_roster (stop.BadInput fault) h = absurd h
+    ends_at_roster (stop.NotYet f) h = absurd h
+    ends_at_roster (stop.No (refusal.Certificate fault)) h = absurd h
+    ends_at_roster (stop.No refusal.Roster) h = record { problem = problem; awarded = awarded; before = plain; text = text; there = there; unread = h }
+    ends_at_roster (stop.No (refusal.Judged why)) h = absurd h
+    ends_at_roster (stop.Missing f) h = absurd h
+    ends_at_roster (stop.ReadFault f) h = tt
+    ends_at_roster (stop.TooLong f) h = absurd h
+    ends_at_roster stop.NoMemory h = tt
+
+    pub judged : (roster : List (List ℕ)) → IsRosterOf problem text (Ok roster) → (r : Result Verdict Stop) → JudgesAward problem roster awarded.proofs r → IsCheck files r
+    judged roster is r h = by r h
+      where
+        all : NamesAll files problem awarded roster
+        all = record { before = plain; text = text; there = there; read = is }
+
+        by : (r : Result Verdict Stop) → JudgesAward problem roster awarded.proofs r → IsCheck files r
+        by (Ok (verdict.Award scores)) h = record { problem = problem; awarded = awarded; roster = roster; named = all; judged = h }
+        by (Ok verdict.NoRoster) h = absurd h
+        by (Err (stop.BadInput fault)) h = absurd h
+        by (Err (stop.NotYet f)) h = absurd h
+        by (Err (stop.No (refusal.Certificate fault))) h = absurd h
+        by (Err (stop.No refusal.Roster)) h = absurd h
+        by (Err (stop.No (refusal.Judged why))) h = inl (record { problem = problem; awarded = awarded; roster = roster; named = all; judged = h })
+        by (Err (stop.Missing f)) h = absurd h
+        by (Err (stop.ReadFault f)) h = tt
+        by (Err (stop.TooLong f)) h = absurd h
+        by (Err stop.NoMemory) h = tt
+
+-- a fault of the certificate's reader, as an end
+pub cert_end : (bytes : List ℕ) (fault : CertFault) (c : CertCode) → FailsBy c fault (certificate_in bytes)
+    → IsCertificateOf bytes (Err (cert_stop c fault))
+cert_end bytes fault cert.NoMemory h = tt
+cert_end bytes fault cert.Version h = h
+cert_end bytes fault cert.Word h = h
+cert_end bytes fault cert.Number h = h
+cert_end bytes fault cert.Short h = h
+cert_end bytes fault cert.Trailing h = h
+cert_end bytes fault cert.Limit h = h

@@ -1,6 +1,5 @@
 pub mod OneWord
-pub mod PlainNumberLaws
-pub mod CertificateLaws
+pub mod ReadingLaws
 pub mod Several
 pub mod RosterLaws
 pub mod Saying

@@ -12,11 +12,11 @@ use Rattle.pbs_engine.specs.declared.text_fault.TextFault.{TextFault}
 use Rattle.pbs_engine.specs.declared.text_fault.TextFault.TheVariants.{Unread, NoMemory}
 use Rattle.roster_model.specs.declared.problem.Problem.{Problem}
 use Rattle.roster_model.specs.Ascending.{is_ascending, ascends_from}
-use Rattle.pbs_engine.specs.CertificateReading.{◌>>=◌, Fails, Gives, word_at}
+use Rattle.pbs_engine.specs.TextReading.{◌>>=◌, Fails, Gives, word_at}
 use Rattle.pbs_engine.specs.RosterText.{pairing_name, member_name, names_text, sums_text, row_text, rows_text, roster_header, roster_text, IsLine, IsRoster}
 use Rattle.pbs_engine.specs.RosterReading.{HasNames, after_separator, name_at, named, names_at, line_at, summed_at, row_at, rows_at, roster_of}
 use Rattle.pbs_engine.proofs.Several.{with_front, regroup}
-use Rattle.pbs_engine.proofs.CertificateLaws.{bind_some, some_if, some_is, word_takes, word_again}
+use Rattle.pbs_engine.proofs.ReadingLaws.{bind_some, some_if, some_is, word_takes, word_again}
 
 -- ---- names
 

@@ -5,7 +5,7 @@ use Rattle.std.specs.Result.{is_err}
 use Rattle.std.proofs.lemmas.List.{append-nil}
 use Rattle.pbs_engine.specs.declared.text_fault.TextFault.{TextFault}
 use Rattle.pbs_engine.specs.declared.text_fault.TextFault.TheVariants.{Unread, NoMemory}
-use Rattle.pbs_engine.specs.CertificateReading.{◌>>=◌, Fails}
+use Rattle.pbs_engine.specs.TextReading.{◌>>=◌, Fails}
 
 -- what was read before, and what is still read
 abbrev pub with_front : {X : Type 0} → List X → Option (List X × List ℕ) → Option (List X × List ℕ)

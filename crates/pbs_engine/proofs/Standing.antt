@@ -1,4 +1,4 @@
--- A yes says that the award stands.
+-- A yes says that the award stands, or that there is no complete roster.
 use Rattle.std.proofs.Common.{◌≡◌, ℕ, Bool, true, false, cond, ltb, List, length, Option, Some, None, Result, Ok, Err, refl, sym, ap, subst, ◌∙◌}
 use Rattle.shelf.specs.Files.{Files, file}
 use Rattle.shelf.specs.Puts.{with_piece, Puts}
@@ -12,12 +12,14 @@ use Rattle.pbs_engine.specs.declared.answer.Answer.{Answer}
 use Rattle.pbs_engine.specs.declared.answer.Answer.TheVariants as answer
 use Rattle.pbs_engine.specs.declared.status.Status.{Status}
 use Rattle.pbs_engine.specs.declared.status.Status.TheVariants as status
+use Rattle.pbs_engine.specs.declared.verdict.Verdict.{Verdict}
+use Rattle.pbs_engine.specs.declared.verdict.Verdict.TheVariants as verdict
 use Rattle.pbs_engine.specs.declared.stop.Stop.{Stop}
 use Rattle.pbs_engine.specs.declared.stop.Stop.TheVariants as stop
 use Rattle.pbs_engine.specs.Reading.{◌>>=◌, within, text_in, texts_in}
-use Rattle.pbs_engine.specs.Checks.{Given, given_in, IsCheck}
+use Rattle.pbs_engine.specs.Checks.{Given, given_in, AwardIsJudged, NoneIsJudged, IsCheck}
 use Rattle.pbs_engine.specs.Answers.{text_of}
-use Rattle.pbs_engine.specs.Headline.{AwardStands, yes_text}
+use Rattle.pbs_engine.specs.Headline.{AwardStands, NoRosterStands, Stands, yes_text}
 use Rattle.pbs_engine.specs.Runs.{Said, IsAnswer, ending}
 use Rattle.pbs_engine.proofs.RosterLaws.{roster_takes}
 
@@ -44,16 +46,17 @@ there f (Some held) bytes e = by (ltb (limit_of f) (length held)) e
     by true e = absurd cc
     by false e = let same : held ≡ bytes = cc in ap Some same
 
-stands : (files : Files) (scores : List ℕ) → IsCheck files (Ok scores) → AwardStands files scores
-stands files scores h =
+award_stands : (files : Files) (scores : List ℕ) → AwardIsJudged files (Ok (verdict.Award scores)) → AwardStands files scores
+award_stands files scores h =
     let award = h.judged in
-    let given = h.named.before.given in
+    let named = h.named.before.before in
+    let given = named.given in
     let text = roster_takes h.problem h.named.text h.roster h.named.read in
     record {
       inputs = given.inputs;
-      read = given_reads files given h.named.before.before.read;
+      read = given_reads files given named.before.read;
       problem = h.problem;
-      names = h.named.before.before.names;
+      names = named.before.names;
       roster = h.roster;
       roster_file = there Roster (file files (name_of Roster)) h.named.text h.named.there ∙ ap Some text.1;
       complete = award.best.complete;
@@ -61,16 +64,31 @@ stands files scores h =
       greatest = λ other complete more. award.greatest other complete (subst (λ (s : List ℕ). IsGreater (scores_of h.problem other) s) award.scores_are more);
     }
 
--- an accepted award, put whole, and nothing else ends in Done
+none_stands : (files : Files) → NoneIsJudged files (Ok verdict.NoRoster) → NoRosterStands files
+none_stands files h =
+    let given = h.named.given in
+    record {
+      inputs = given.inputs;
+      read = given_reads files given h.named.before.read;
+      problem = h.problem;
+      names = h.named.before.names;
+      none = h.judged.none;
+    }
+
+stands : (files : Files) (shown : Verdict) → IsCheck files (Ok shown) → Stands files shown
+stands files (verdict.Award scores) h = award_stands files scores h
+stands files verdict.NoRoster h = none_stands files h
+
+-- an accepted certificate, put whole, and nothing else ends in Done
 record IsYes {T : Type 0} (a : Answer) (put : Result T SinkFault) : Type 0 where
-  scores : List ℕ
-  accepted : a ≡ answer.Accepted scores
+  shown : Verdict
+  accepted : a ≡ answer.Accepted shown
   value : T
   whole : put ≡ Ok value
 
 is_yes : {T : Type 0} (a : Answer) (put : Result T SinkFault) → ending a put ≡ status.Done → IsYes a put
 is_yes answer.Usage (Ok x) e = absurd cc
-is_yes (answer.Accepted scores) (Ok x) e = record { scores = scores; accepted = refl; value = x; whole = refl }
+is_yes (answer.Accepted shown) (Ok x) e = record { shown = shown; accepted = refl; value = x; whole = refl }
 is_yes (answer.Stopped (stop.BadInput fault)) (Ok x) e = absurd cc
 is_yes (answer.Stopped (stop.NotYet f)) (Ok x) e = absurd cc
 is_yes (answer.Stopped (stop.No why)) (Ok x) e = absurd cc
@@ -81,19 +99,23 @@ is_yes (answer.Stopped stop.NoMemory) (Ok x) e = absurd cc
 is_yes a (Err PutFailed) e = absurd cc
 is_yes a (Err NoMemory) e = absurd cc
 
+yes_put : (old : Option (List ℕ)) (shown : Verdict) → with_piece old (text_of (answer.Accepted shown)) ≡ with_piece old (yes_text shown)
+yes_put old (verdict.Award scores) = refl
+yes_put old verdict.NoRoster = refl
+
 pub yes_stands : (files : Files) (a : Answer) → IsAnswer files a → (before now : ℕ) (old new : Option (List ℕ)) (result : Status) → Said a before now old new result → result ≡ status.Done
-    → (scores : List ℕ) × AwardStands files scores × (new ≡ with_piece old (yes_text scores))
+    → (shown : Verdict) × Stands files shown × (new ≡ with_piece old (yes_text shown))
 yes_stands files a told before now old new result said e =
     let yes' = is_yes a said.put (sym said.ends ∙ e) in (
-      yes'.scores,
-      stands files yes'.scores (subst (IsAnswer files) yes'.accepted told),
-      put-whole a yes'.scores yes'.accepted said.put yes'.value yes'.whole said.text,
+      yes'.shown,
+      stands files yes'.shown (subst (IsAnswer files) yes'.accepted told),
+      put-whole a yes'.shown yes'.accepted said.put yes'.value yes'.whole said.text ∙ yes_put old yes'.shown,
     )
   where
-    put-whole : (a : Answer) (scores : List ℕ) → a ≡ answer.Accepted scores → (put : Result (Unit {0}) SinkFault) (value : Unit {0}) → put ≡ Ok value → Puts old new (text_of a) put
-        → new ≡ with_piece old (yes_text scores)
-    put-whole a scores is put value whole text =
-        let text' : Puts old new (text_of (answer.Accepted scores)) (Ok value) =
-        subst (λ (p : Result (Unit {0}) SinkFault). Puts old new (text_of (answer.Accepted scores)) p) whole
+    put-whole : (a : Answer) (shown : Verdict) → a ≡ answer.Accepted shown → (put : Result (Unit {0}) SinkFault) (value : Unit {0}) → put ≡ Ok value → Puts old new (text_of a) put
+        → new ≡ with_piece old (text_of (answer.Accepted shown))
+    put-whole a shown is put value whole text =
+        let text' : Puts old new (text_of (answer.Accepted shown)) (Ok value) =
+        subst (λ (p : Result (Unit {0}) SinkFault). Puts old new (text_of (answer.Accepted shown)) p) whole
         (subst (λ (b : Answer). Puts old new (text_of b) put) is text) in
         text'

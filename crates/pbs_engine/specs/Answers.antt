@@ -1,5 +1,5 @@
 -- The status and the text of each answer.
-use Rattle.std.specs.Prelude.{ℕ, ◌+◌, List, [], ◌∷◌, ◌++◌, codes, decimal}
+use Rattle.std.specs.Prelude.{ℕ, ◌+◌, ℤ, List, [], ◌∷◌, ◌++◌, codes, decimal}
 use Rattle.std.specs.List.{flat_map}
 use Rattle.field_text.specs.declared.field_fault.FieldFault.{FieldFault}
 use Rattle.field_text.specs.declared.field_fault.FieldFault.TheVariants as field
@@ -12,6 +12,10 @@ use Rattle.rules_file.specs.declared.fault.RuleFault.TheVariants as rule
 use Rattle.bid_language.specs.Codes.{bid_code}
 use Rattle.line_legality.specs.declared.illegal.Illegal.{Illegal}
 use Rattle.line_legality.specs.declared.illegal.Illegal.TheVariants as illegal
+use Rattle.line_lens.specs.declared.lens_fault.LensFault.{LensFault}
+use Rattle.line_lens.specs.declared.lens_fault.LensFault.TheVariants as lens
+use Rattle.cert_text.specs.Codes.{cert_code}
+use Rattle.cert_text.specs.Spelling.{weight_text}
 use Rattle.cert_checker.specs.declared.refusal.ItemFault.{ItemFault}
 use Rattle.cert_checker.specs.declared.refusal.ItemFault.TheVariants as item
 use Rattle.cert_checker.specs.declared.refusal.No.{No}
@@ -28,10 +32,11 @@ use Rattle.pbs_engine.specs.declared.stop.InputFault.TheVariants as input
 use Rattle.pbs_engine.specs.declared.stop.Refusal.{Refusal}
 use Rattle.pbs_engine.specs.declared.stop.Refusal.TheVariants as refusal
 use Rattle.pbs_engine.specs.declared.stop.Stop.TheVariants as stop
+use Rattle.pbs_engine.specs.declared.verdict.Verdict.TheVariants as verdict
 
 abbrev pub status_of : Answer → Status
 status_of answer.Usage = status.Usage
-status_of (answer.Accepted scores) = status.Done
+status_of (answer.Accepted verdict) = status.Done
 status_of (answer.Stopped (stop.BadInput fault)) = status.BadInput
 status_of (answer.Stopped (stop.NotYet f)) = status.NotYet
 status_of (answer.Stopped (stop.No why)) = status.No
@@ -53,7 +58,7 @@ line_of word ns = line (word ++ numbers ns)
 abbrev pub usage : List ℕ
 usage = codes "usage: pbs FOLDER award [--nodes N] | check | show MEMBER | make NUMBER MEMBERS PAIRINGS | trial NUMBER MEMBERS PAIRINGS [--nodes N]"
 
--- a fault as numbers: its code, then its arguments. Members, pairings, searches and items count from 1.
+-- a fault as numbers: its code, then its arguments. Members, pairings, bids, searches, items and windows count from 1.
 abbrev pub illegal_numbers : Illegal → List ℕ
 illegal_numbers illegal.NoMemory = 0 ∷ 0 ∷ []
 illegal_numbers (illegal.Overlap minute) = 1 ∷ minute ∷ []
@@ -66,22 +71,37 @@ illegal_numbers (illegal.Flight365 day) = 7 ∷ day ∷ []
 illegal_numbers (illegal.Credit total) = 8 ∷ total ∷ []
 illegal_numbers (illegal.DaysOff count) = 9 ∷ count ∷ []
 
-abbrev pub item_numbers : ItemFault → List ℕ
-item_numbers item.Index = 1 ∷ []
-item_numbers item.Decided = 2 ∷ []
-item_numbers item.Covered = 3 ∷ []
-item_numbers (item.Undecided p) = 4 ∷ (p + 1) ∷ []
-item_numbers item.Fits = 5 ∷ []
+abbrev pub lens_numbers : LensFault → List ℕ
+lens_numbers (lens.Untrackable bid) = 1 ∷ (bid + 1) ∷ []
+lens_numbers (lens.Windows count) = 2 ∷ count ∷ []
+lens_numbers (lens.Window index) = 3 ∷ (index + 1) ∷ []
+lens_numbers lens.Grain = 4 ∷ []
 
-abbrev pub no_numbers : No → List ℕ
-no_numbers no.NoMemory = 0 ∷ []
-no_numbers (no.Member m why) = 1 ∷ (m + 1) ∷ illegal_numbers why
-no_numbers (no.Cover p count) = 2 ∷ (p + 1) ∷ count ∷ []
-no_numbers (no.Amount found) = 3 ∷ found ∷ []
-no_numbers (no.Item k at why) = 4 ∷ (k + 1) ∷ (at + 1) ∷ item_numbers why
-no_numbers (no.Left k) = 5 ∷ (k + 1) ∷ []
-no_numbers (no.Reason m b) = 6 ∷ (m + 1) ∷ (b + 1) ∷ []
-no_numbers (no.Shown m b) = 7 ∷ (m + 1) ∷ (b + 1) ∷ []
+-- a sum of weights behind a space, with a sign where it is below 0
+abbrev pub sum_text : ℤ → List ℕ
+sum_text sum = 32 ∷ weight_text sum
+
+abbrev pub item_text : ItemFault → List ℕ
+item_text item.Index = numbers (1 ∷ [])
+item_text item.Decided = numbers (2 ∷ [])
+item_text item.Covered = numbers (3 ∷ [])
+item_text (item.Undecided p) = numbers (4 ∷ (p + 1) ∷ [])
+item_text item.Fits = numbers (5 ∷ [])
+item_text (item.Lens m why) = numbers (6 ∷ (m + 1) ∷ lens_numbers why)
+item_text (item.Line m) = numbers (7 ∷ (m + 1) ∷ [])
+item_text (item.Nothing m) = numbers (8 ∷ (m + 1) ∷ [])
+item_text (item.Sum lines needs) = numbers (9 ∷ []) ++ sum_text lines ++ sum_text needs
+item_text (item.Width weights lenses) = numbers (10 ∷ weights ∷ lenses ∷ [])
+
+abbrev pub no_text : No → List ℕ
+no_text no.NoMemory = numbers (0 ∷ [])
+no_text (no.Member m why) = numbers (1 ∷ (m + 1) ∷ illegal_numbers why)
+no_text (no.Cover p count) = numbers (2 ∷ (p + 1) ∷ count ∷ [])
+no_text (no.Amount found) = numbers (3 ∷ found ∷ [])
+no_text (no.Item k at why) = numbers (4 ∷ (k + 1) ∷ (at + 1) ∷ []) ++ item_text why
+no_text (no.Left k) = numbers (5 ∷ (k + 1) ∷ [])
+no_text (no.Reason m b) = numbers (6 ∷ (m + 1) ∷ (b + 1) ∷ [])
+no_text (no.Shown m b) = numbers (7 ∷ (m + 1) ∷ (b + 1) ∷ [])
 
 abbrev pub field_numbers : FieldFault → List ℕ
 field_numbers (field.Shape column) = 2 ∷ column ∷ []
@@ -129,13 +149,14 @@ input_text (input.Members fault) = line_of (bad (csv_file fault.file)) (fault.ro
 input_text (input.Bids fault) = line_of (bad file.Bids) (fault.line ∷ fault.column ∷ bid_code fault.code ∷ [])
 
 abbrev pub refusal_text : Refusal → List ℕ
-refusal_text refusal.Certificate = line (codes "no certificate")
+refusal_text (refusal.Certificate fault) = line_of (codes "no certificate") (fault.line ∷ cert_code fault.code ∷ [])
 refusal_text refusal.Roster = line (codes "no roster")
-refusal_text (refusal.Judged why) = line_of (codes "no") (no_numbers why)
+refusal_text (refusal.Judged why) = line (codes "no" ++ no_text why)
 
 abbrev pub text_of : Answer → List ℕ
 text_of answer.Usage = line usage
-text_of (answer.Accepted scores) = line (codes "yes") ++ line_of (codes "vector") scores
+text_of (answer.Accepted (verdict.Award scores)) = line (codes "yes") ++ line_of (codes "vector") scores
+text_of (answer.Accepted verdict.NoRoster) = line (codes "yes none")
 text_of (answer.Stopped (stop.BadInput fault)) = input_text fault
 text_of (answer.Stopped (stop.NotYet f)) = line (codes "not yet " ++ name_of f)
 text_of (answer.Stopped (stop.No why)) = refusal_text why

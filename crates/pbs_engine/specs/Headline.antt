@@ -5,6 +5,8 @@ use Rattle.roster_model.specs.declared.problem.Problem.{Problem}
 use Rattle.roster_model.specs.Rosters.{IsComplete, IsGreater, scores_of}
 use Rattle.pbs_engine.specs.FileNames.{name_of}
 use Rattle.pbs_engine.specs.declared.file.File.TheVariants.{Roster}
+use Rattle.pbs_engine.specs.declared.verdict.Verdict.{Verdict}
+use Rattle.pbs_engine.specs.declared.verdict.Verdict.TheVariants.{Award, NoRoster}
 use Rattle.pbs_engine.specs.Answers.{line, line_of}
 use Rattle.pbs_engine.specs.Months.{Names}
 use Rattle.pbs_engine.specs.Reading.{Inputs, texts_in}
@@ -24,6 +26,19 @@ pub record AwardStands (files : Files) (scores : List ℕ) : Type 0 where
   pub scores_are : scores ≡ scores_of problem roster
   pub greatest : (other : List (List ℕ)) → IsComplete problem other → IsGreater (scores_of problem other) scores → ⊥
 
+-- the eight inputs name a problem that has no complete roster
+pub record NoRosterStands (files : Files) : Type 0 where
+  pub inputs : Inputs
+  pub read : texts_in files ≡ Ok inputs
+  pub problem : Problem
+  pub names : Names inputs problem
+  pub none : (roster : List (List ℕ)) → IsComplete problem roster → ⊥
+
+abbrev pub Stands : Files → Verdict → Type 0
+Stands files (Award scores) = AwardStands files scores
+Stands files NoRoster = NoRosterStands files
+
 -- what is printed at a yes
-abbrev pub yes_text : List ℕ → List ℕ
-yes_text scores = line (codes "yes") ++ line_of (codes "vector") scores
+abbrev pub yes_text : Verdict → List ℕ
+yes_text (Award scores) = line (codes "yes") ++ line_of (codes "vector") scores
+yes_text NoRoster = line (codes "yes none")

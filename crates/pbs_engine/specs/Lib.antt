@@ -1,9 +1,7 @@
 pub mod FileNames
 pub mod Statuses
 pub mod Words
-pub mod PlainNumbers
-pub mod CertificateText
-pub mod CertificateReading
+pub mod TextReading
 pub mod RosterText
 pub mod RosterReading
 pub mod Reading

@@ -4,7 +4,7 @@ use Rattle.std.specs.List.{list_all}
 use Rattle.duty_calendar.specs.Forms.{is_name_byte}
 use Rattle.roster_model.specs.declared.problem.Problem.{Problem}
 use Rattle.roster_model.specs.Ascending.{is_ascending}
-use Rattle.pbs_engine.specs.CertificateReading.{◌>>=◌, word_at}
+use Rattle.pbs_engine.specs.TextReading.{◌>>=◌, word_at}
 use Rattle.pbs_engine.specs.RosterText.{pairing_name, member_name, sums_text, roster_header}
 
 -- what stands behind a space, or behind the comma after the last name

@@ -19,19 +19,19 @@ use Rattle.pbs_engine.specs.declared.status.Status.TheVariants as status
 -- the usage line is the answer exactly where the words are no command
 abbrev pub FitsWords : List (List ℕ) → Answer → Type 0
 FitsWords words answer.Usage = IsNoCommand words
-FitsWords words (answer.Accepted scores) = words ≡ words_of Check
+FitsWords words (answer.Accepted verdict) = words ≡ words_of Check
 FitsWords words (answer.Stopped e) = words ≡ words_of Check
 
 -- an answer comes with its change of the shelf's counts
 abbrev pub AnswerCause : Tally → Tally → Answer → Type 0
 AnswerCause old new answer.Usage = new ≡ old
-AnswerCause old new (answer.Accepted scores) = new ≡ old
+AnswerCause old new (answer.Accepted verdict) = new ≡ old
 AnswerCause old new (answer.Stopped e) = StopCause old new e
 
 -- the right answer over these files
 abbrev pub IsAnswer : Files → Answer → Type 0
 IsAnswer files answer.Usage = Unit {0}
-IsAnswer files (answer.Accepted scores) = IsCheck files (Ok scores)
+IsAnswer files (answer.Accepted verdict) = IsCheck files (Ok verdict)
 IsAnswer files (answer.Stopped e) = IsCheck files (Err e)
 
 -- what a run found out

@@ -1,15 +1,16 @@
 -- What the stages of `check` answer.
-use Rattle.std.specs.Prelude.{◌≡◌, ℕ, List, Option, Some, None, Result, Ok, Err, true, false, Vec}
+use Rattle.std.specs.Prelude.{◌≡◌, ℕ, List, Some, None, Result, Ok, Err, Vec}
 use Rattle.std.specs.declared.alloc.Global.{Global}
 use Rattle.roster_model.specs.declared.problem.Problem.{Problem}
-use Rattle.roster_model.specs.declared.proof.Item.{Item}
-use Rattle.pbs_engine.specs.declared.file.File.TheVariants.{Certificate}
+use Rattle.roster_model.specs.declared.award.Certificate.{Certificate}
+use Rattle.cert_text.specs.declared.fault.CertCode.{CertCode}
+use Rattle.cert_text.specs.declared.fault.CertCode.TheVariants as cert
+use Rattle.cert_text.specs.declared.fault.CertFault.{CertFault}
+use Rattle.cert_text.specs.Reading.{certificate_in}
 use Rattle.pbs_engine.specs.declared.reading.Texts.{Texts}
 use Rattle.pbs_engine.specs.declared.stop.Stop.{Stop}
 use Rattle.pbs_engine.specs.declared.stop.Stop.TheVariants as stop
 use Rattle.pbs_engine.specs.declared.stop.Refusal.TheVariants as refusal
-use Rattle.pbs_engine.specs.CertificateReading.{certificate_of}
-use Rattle.pbs_engine.specs.CertificateText.{has_later_word}
 use Rattle.pbs_engine.specs.RosterReading.{roster_of}
 use Rattle.rules_file.specs.declared.fault.RuleFault.{RuleFault}
 use Rattle.rules_file.specs.declared.fault.RuleFault.TheVariants as rule
@@ -71,29 +72,35 @@ bid_stop fault bid.Weight = stop.BadInput fault
 bid_stop fault bid.TooMany = stop.BadInput fault
 bid_stop fault bid.MemberTwice = stop.BadInput fault
 
--- the reader of the certificate
-pub record HasProofs (bytes : List ℕ) (proofs : Option (List (List Item))) : Type 0 where
-  pub no_later : has_later_word bytes ≡ false
-  pub read : certificate_of bytes ≡ proofs
+-- a certificate's fault as an end
+abbrev pub cert_stop : CertCode → CertFault → Stop
+cert_stop cert.NoMemory fault = stop.NoMemory
+cert_stop cert.Version fault = stop.No (refusal.Certificate fault)
+cert_stop cert.Word fault = stop.No (refusal.Certificate fault)
+cert_stop cert.Number fault = stop.No (refusal.Certificate fault)
+cert_stop cert.Short fault = stop.No (refusal.Certificate fault)
+cert_stop cert.Trailing fault = stop.No (refusal.Certificate fault)
+cert_stop cert.Limit fault = stop.No (refusal.Certificate fault)
 
-abbrev pub AreProofsOf : List ℕ → Result (List (List Item)) Stop → Type 0
-AreProofsOf bytes (Ok proofs) = HasProofs bytes (Some proofs)
-AreProofsOf bytes (Err (stop.BadInput fault)) = ⊥
-AreProofsOf bytes (Err (stop.NotYet f)) = (f ≡ Certificate) × (has_later_word bytes ≡ true)
-AreProofsOf bytes (Err (stop.No refusal.Certificate)) = HasProofs bytes None
-AreProofsOf bytes (Err (stop.No refusal.Roster)) = ⊥
-AreProofsOf bytes (Err (stop.No (refusal.Judged why))) = ⊥
-AreProofsOf bytes (Err (stop.Missing f)) = ⊥
-AreProofsOf bytes (Err (stop.ReadFault f)) = ⊥
-AreProofsOf bytes (Err (stop.TooLong f)) = ⊥
-AreProofsOf bytes (Err stop.NoMemory) = Unit {0}
+-- the reader of the certificate
+abbrev pub IsCertificateOf : List ℕ → Result Certificate Stop → Type 0
+IsCertificateOf bytes (Ok certificate) = certificate_in bytes ≡ Ok certificate
+IsCertificateOf bytes (Err (stop.BadInput fault)) = ⊥
+IsCertificateOf bytes (Err (stop.NotYet f)) = ⊥
+IsCertificateOf bytes (Err (stop.No (refusal.Certificate fault))) = certificate_in bytes ≡ Err fault
+IsCertificateOf bytes (Err (stop.No refusal.Roster)) = ⊥
+IsCertificateOf bytes (Err (stop.No (refusal.Judged why))) = ⊥
+IsCertificateOf bytes (Err (stop.Missing f)) = ⊥
+IsCertificateOf bytes (Err (stop.ReadFault f)) = ⊥
+IsCertificateOf bytes (Err (stop.TooLong f)) = ⊥
+IsCertificateOf bytes (Err stop.NoMemory) = Unit {0}
 
 -- the reader of the roster's text
 abbrev pub IsRosterOf : Problem → List ℕ → Result (List (List ℕ)) Stop → Type 0
 IsRosterOf problem bytes (Ok roster) = roster_of problem bytes ≡ Some roster
 IsRosterOf problem bytes (Err (stop.BadInput fault)) = ⊥
 IsRosterOf problem bytes (Err (stop.NotYet f)) = ⊥
-IsRosterOf problem bytes (Err (stop.No refusal.Certificate)) = ⊥
+IsRosterOf problem bytes (Err (stop.No (refusal.Certificate fault))) = ⊥
 IsRosterOf problem bytes (Err (stop.No refusal.Roster)) = roster_of problem bytes ≡ None
 IsRosterOf problem bytes (Err (stop.No (refusal.Judged why))) = ⊥
 IsRosterOf problem bytes (Err (stop.Missing f)) = ⊥

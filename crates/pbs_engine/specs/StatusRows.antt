@@ -14,6 +14,7 @@ use Rattle.pbs_engine.specs.declared.stop.Stop.TheVariants as stop
 use Rattle.pbs_engine.specs.declared.answer.Answer.{Answer}
 use Rattle.pbs_engine.specs.declared.answer.Answer.TheVariants as answer
 use Rattle.pbs_engine.specs.declared.status.Status.{Status}
+use Rattle.pbs_engine.specs.declared.verdict.Verdict.{Verdict}
 use Rattle.pbs_engine.specs.declared.status.Status.TheVariants as status
 
 -- the words are no command, and the usage line was put
@@ -21,12 +22,12 @@ pub record SaysUsage (words : List (List ℕ)) (old new : Option (List ℕ)) : T
   pub none : IsNoCommand words
   pub text : new ≡ with_piece old (text_of answer.Usage)
 
--- check was asked for, the award is accepted with these scores, and they were put
+-- check was asked for, the certificate is accepted, and what it shows was put
 pub record SaysYes (words : List (List ℕ)) (files : Files) (old new : Option (List ℕ)) : Type 0 where
   pub asked : words ≡ words_of Check
-  pub scores : List ℕ
-  pub found : IsCheck files (Ok scores)
-  pub text : new ≡ with_piece old (text_of (answer.Accepted scores))
+  pub verdict : Verdict
+  pub found : IsCheck files (Ok verdict)
+  pub text : new ≡ with_piece old (text_of (answer.Accepted verdict))
 
 -- check was asked for, the files end it so, and the text of this end was put
 pub record EndsBy (words : List (List ℕ)) (files : Files) (old new : Option (List ℕ)) (e : Stop) : Type 0 where

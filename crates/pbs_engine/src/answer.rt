@@ -4,15 +4,15 @@ ghost use Rattle.pbs_engine.specs.Answers.{status_of};
 
 use crate::status::Status;
 use crate::stop::Stop;
-use duty_calendar::List;
+use crate::verdict::Verdict;
 
 /// What a run answers.
 #[derive(Drop, Debug)]
 pub enum Answer {
     /// The words are no command.
     Usage,
-    /// The award is accepted, and these are its scores.
-    Accepted(List<u32>),
+    /// The certificate is accepted, and shows this.
+    Accepted(Verdict),
     /// The command ended before it was done.
     Stopped(Stop),
 }

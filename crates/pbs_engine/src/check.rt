@@ -1,23 +1,27 @@
 //! The command `check`.
-ghost use Rattle.std.specs.Prelude.{◌≡◌, IfOk};
+ghost use Rattle.std.specs.Prelude.{◌≡◌, ◌≤◌, true, [], IfOk, length};
 ghost use Rattle.std.specs.Option.{ForSome};
+ghost use Rattle.field_text.specs.Sizes.{longest};
+ghost use Rattle.roster_model.specs.declared.award.Certificate.TheVariants.{Award as AwardForm, NoRoster as OtherForm};
+ghost use Rattle.cert_text.specs.Limits.{is_certificate};
+ghost use Rattle.pbs_engine.specs.FileNames.{limit_of};
+ghost use Rattle.pbs_engine.specs.declared.file.File.TheVariants.{Certificate as CertificateFile};
 ghost use Rattle.pbs_engine.specs.Reading.{HasCause, Finds, text_in, view_texts, AreShort};
-ghost use Rattle.pbs_engine.specs.CertificateText.{AreProofs};
 ghost use Rattle.pbs_engine.specs.RosterText.{IsRoster};
-ghost use Rattle.pbs_engine.specs.Checks.{Judges, IsCheck, given_in};
-ghost use Rattle.pbs_engine.specs.Stages.{AreProofsOf, IsRosterOf, view_given};
-ghost use Rattle.pbs_engine.specs.declared.file.File.TheVariants.{Roster as RosterFile};
+ghost use Rattle.pbs_engine.specs.Checks.{JudgesAward, JudgesNone, NamesCertificate, IsCheck, given_in};
+ghost use Rattle.pbs_engine.specs.Stages.{cert_stop, IsCertificateOf, IsRosterOf, view_given};
 
-use crate::certificate::{has_later_word, read_certificate};
 use crate::file::File;
 use crate::month::read_month;
 use crate::reading::{Texts, read_file, read_texts};
 use crate::roster::read_roster;
 use crate::stop::{Refusal, Stop};
 use crate::text_fault::TextFault;
-use cert_checker::{No, judge, scores_of};
+use crate::verdict::Verdict;
+use cert_checker::{No, judge, judge_none, scores_of};
+use cert_text::{CertCode, CertFault, read_certificate};
 use duty_calendar::List;
-use roster_model::{Awarded, Problem, Proof, Roster};
+use roster_model::{Awarded, Certificate, Problem, Proof, Roster};
 use shelf::Shelf;
 use std::alloc::Global;
 
@@ -27,6 +31,7 @@ fn read_given<S: Shelf>(alloc: Global, shelf: &mut S) -> Result<(Texts, Vec<u8>)
     ensures cause { HasCause (S.tally shelf.old) (S.tally shelf.new) result }
     ensures told { ForSome (S.holds shelf.old) (λ files. Finds view_given result (given_in files)) }
     ensures short { IfOk result (λ x. AreShort (view_texts x.0)) }
+    ensures limit { IfOk result (λ x. length x.1.items ≤ limit_of CertificateFile) }
     ensures kept { S.holds shelf.new ≡ S.holds shelf.old }
 {
     let texts = read_texts(alloc, shelf)?;
@@ -34,18 +39,30 @@ fn read_given<S: Shelf>(alloc: Global, shelf: &mut S) -> Result<(Texts, Vec<u8>)
     Ok((texts, certificate))
 }
 
-/// The proofs of a certificate, where it has no form that is not judged yet.
-fn proofs_of(alloc: Global, bytes: &[u8]) -> Result<List<Proof>, Stop>
-    ensures read { AreProofsOf bytes.now result }
-    ensures form { IfOk result AreProofs }
+/// A certificate's fault as an end.
+fn cert_stop(fault: CertFault) -> Stop
+    ensures value { result ≡ cert_stop fault.code fault }
 {
-    if has_later_word(bytes) {
-        return Err(Stop::NotYet(File::Certificate));
+    match fault.code {
+        CertCode::NoMemory => Stop::NoMemory,
+        CertCode::Version
+        | CertCode::Word
+        | CertCode::Number
+        | CertCode::Short
+        | CertCode::Trailing
+        | CertCode::Limit => Stop::No(Refusal::Certificate(fault)),
     }
+}
+
+/// The certificate of a text.
+fn certificate_of(alloc: Global, bytes: &[u8]) -> Result<Certificate, Stop>
+    requires short { length bytes.now ≤ longest }
+    ensures read { IsCertificateOf bytes.now result }
+    ensures limits { IfOk result (λ c. is_certificate c ≡ true) }
+{
     match read_certificate(alloc, bytes) {
-        Ok(proofs) => Ok(proofs),
-        Err(TextFault::Unread) => Err(Stop::No(Refusal::Certificate)),
-        Err(TextFault::NoMemory) => Err(Stop::NoMemory),
+        Ok(certificate) => Ok(certificate),
+        Err(fault) => Err(cert_stop(fault)),
     }
 }
 
@@ -62,38 +79,67 @@ fn roster_of(alloc: Global, problem: &Problem, bytes: &[u8]) -> Result<Roster, S
 }
 
 /// The scores of an accepted award, or the judge's first failing test.
-fn verdict(
+fn award_verdict(
     alloc: Global,
     problem: &Problem,
     roster: &Roster,
-    proofs: List<Proof>,
-) -> Result<List<u32>, Stop>
+    awarded: &Awarded,
+) -> Result<Verdict, Stop>
     requires roster { IsRoster problem.now roster.now }
-    requires proofs { AreProofs proofs }
-    ensures judged { Judges problem.now roster.now proofs result }
+    requires limits { is_certificate (AwardForm awarded.now) ≡ true }
+    requires none_shown { awarded.now.shown ≡ [] }
+    ensures judged { JudgesAward problem.now roster.now awarded.now.proofs result }
 {
     let reasons = List::new(alloc);
-    let awarded = Awarded {
-        proofs,
-        shown: List::new(alloc),
-    };
-    match judge(alloc, problem, roster, &reasons, &awarded) {
-        Ok(()) => Ok(scores_of(alloc, problem, roster)?),
+    match judge(alloc, problem, roster, &reasons, awarded) {
+        Ok(()) => Ok(Verdict::Award(scores_of(alloc, problem, roster)?)),
         Err(No::NoMemory) => Err(Stop::NoMemory),
         Err(no) => Err(Stop::No(Refusal::Judged(no))),
     }
 }
 
-/// The scores of the award in the folder, where it is accepted.
-pub fn check<S: Shelf>(alloc: Global, shelf: &mut S) -> Result<List<u32>, Stop>
+/// That there is no complete roster, where the proof shows it, or the judge's first failing test.
+fn none_verdict(alloc: Global, problem: &Problem, proof: &Proof) -> Result<Verdict, Stop>
+    requires limits { is_certificate (OtherForm proof.now) ≡ true }
+    ensures judged { JudgesNone problem.now proof.now result }
+{
+    match judge_none(alloc, problem, proof) {
+        Ok(()) => Ok(Verdict::NoRoster),
+        Err(No::NoMemory) => Err(Stop::NoMemory),
+        Err(no) => Err(Stop::No(Refusal::Judged(no))),
+    }
+}
+
+/// What comes of a certificate in the form of an award, over the roster in the folder.
+fn check_award<S: Shelf>(
+    alloc: Global,
+    shelf: &mut S,
+    problem: &Problem,
+    awarded: &Awarded,
+) -> Result<Verdict, Stop>
+    requires limits { is_certificate (AwardForm awarded.now) ≡ true }
+    ensures cause { HasCause (S.tally shelf.old) (S.tally shelf.new) result }
+    ensures told { ForSome (S.holds shelf.old) (λ files. NamesCertificate files problem.now (AwardForm awarded.now) → IsCheck files result) }
+    ensures kept { S.holds shelf.new ≡ S.holds shelf.old }
+{
+    if awarded.shown.len() > 0 {
+        return Err(Stop::NotYet(File::Certificate));
+    }
+    let text = read_file(alloc, shelf, File::Roster)?;
+    let roster = roster_of(alloc, problem, &text)?;
+    award_verdict(alloc, problem, &roster, awarded)
+}
+
+/// What the certificate in the folder shows, where it is accepted.
+pub fn check<S: Shelf>(alloc: Global, shelf: &mut S) -> Result<Verdict, Stop>
     ensures cause { HasCause (S.tally shelf.old) (S.tally shelf.new) result }
     ensures told { ForSome (S.holds shelf.old) (λ files. IsCheck files result) }
     ensures kept { S.holds shelf.new ≡ S.holds shelf.old }
 {
     let (texts, certificate) = read_given(alloc, shelf)?;
     let problem = read_month(alloc, &texts)?;
-    let proofs = proofs_of(alloc, &certificate)?;
-    let text = read_file(alloc, shelf, File::Roster)?;
-    let roster = roster_of(alloc, &problem, &text)?;
-    verdict(alloc, &problem, &roster, proofs)
+    match certificate_of(alloc, &certificate)? {
+        Certificate::Award(awarded) => check_award(alloc, shelf, &problem, &awarded),
+        Certificate::NoRoster(proof) => none_verdict(alloc, &problem, &proof),
+    }
 }

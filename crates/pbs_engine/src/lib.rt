@@ -2,7 +2,6 @@
 #![tactic(auto)]
 
 mod answer;
-mod certificate;
 mod check;
 mod command;
 mod file;
@@ -16,6 +15,7 @@ mod stop;
 mod tests;
 mod text;
 mod text_fault;
+mod verdict;
 
 pub use runner::run;
 pub use status::Status;

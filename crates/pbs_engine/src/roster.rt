@@ -2,16 +2,25 @@
 ghost use Rattle.std.specs.Prelude.{◌≡◌, ◌<◌, ◌++◌, List as Sequence, ℕ, IfOk, OnOk, Some, All, length};
 ghost use Rattle.std.specs.Option.{option_map};
 ghost use Rattle.pbs_engine.specs.RosterText.{sums_text, roster_text, IsRoster};
-ghost use Rattle.pbs_engine.specs.CertificateReading.{Gives, word_at};
+ghost use Rattle.pbs_engine.specs.TextReading.{Gives, word_at};
 ghost use Rattle.pbs_engine.specs.RosterReading.{HasNames, after_separator, name_at, names_at, line_at, summed_at, row_at, rows_at, roster_of};
 
-use crate::certificate::after_word;
 use crate::text_fault::TextFault;
 use bid_score::{credit, score};
 use duty_calendar::{List, Memory};
 use field_text::{put_bytes, put_minutes, put_number};
 use roster_model::{Line, Problem, Roster};
 use std::alloc::Global;
+
+/// What stands behind a word.
+fn after_word<'a>(word: &[u8], bytes: &'a [u8]) -> Result<&'a [u8], TextFault>
+    ensures read { Gives (λ x. x.now) result (word_at word.now bytes.now) }
+{
+    match bytes.strip_prefix(word) {
+        Some(rest) => Ok(rest),
+        None => Err(TextFault::Unread),
+    }
+}
 
 /// What stands behind a space, or behind the comma after the last name.
 fn after_separator(bytes: &[u8]) -> Option<(&[u8], bool)>

@@ -1,10 +1,11 @@
 //! The top call: words, files, and a sink for the text.
-ghost use Rattle.std.specs.Prelude.{◌≡◌, ℕ, List as Sequence, Some, map, string_bytes};
+ghost use Rattle.std.specs.Prelude.{◌≡◌, Some, map, string_bytes};
 ghost use Rattle.shelf.specs.Files.{Files as Told};
 ghost use Rattle.shelf.specs.Puts.{with_piece};
 ghost use Rattle.pbs_engine.specs.declared.status.Status.TheVariants.{Done};
-ghost use Rattle.pbs_engine.specs.Headline.{AwardStands, yes_text};
+ghost use Rattle.pbs_engine.specs.Headline.{Stands, yes_text};
 ghost use Rattle.pbs_engine.specs.declared.answer.Answer.{Answer as Reply};
+ghost use Rattle.pbs_engine.specs.declared.verdict.Verdict.{Verdict as Shown};
 ghost use Rattle.pbs_engine.specs.Runs.{Answers, Said, RunCause};
 ghost use Rattle.pbs_engine.specs.StatusRows.{RunRow};
 
@@ -24,7 +25,7 @@ fn answer<S: Shelf>(alloc: Global, words: &[String], shelf: &mut S) -> Answer
     match Command::from_words(words) {
         None => Answer::Usage,
         Some(Command::Check) => match check(alloc, shelf) {
-            Ok(scores) => Answer::Accepted(scores),
+            Ok(verdict) => Answer::Accepted(verdict),
             Err(stop) => Answer::Stopped(stop),
         },
     }
@@ -53,7 +54,7 @@ pub fn run<S: Shelf, O: Sink>(alloc: Global, words: &[String], shelf: &mut S, ou
     ensures rows { (files : Told) → S.holds shelf.old ≡ Some files
         → RunRow (map string_bytes words.now) files (O.bytes out.old) (O.bytes out.new) result }
     ensures stands { (files : Told) → S.holds shelf.old ≡ Some files → result ≡ Done
-        → (scores : Sequence ℕ) × AwardStands files scores × (O.bytes out.new ≡ with_piece (O.bytes out.old) (yes_text scores)) }
+        → (verdict : Shown) × Stands files verdict × (O.bytes out.new ≡ with_piece (O.bytes out.old) (yes_text verdict)) }
     ensures kept { S.holds shelf.new ≡ S.holds shelf.old }
 {
     let told = answer(alloc, words, shelf);

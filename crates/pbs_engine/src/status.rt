@@ -23,7 +23,7 @@ pub enum Status {
     TooLong,
     /// No memory was left.
     NoMemory,
-    /// The certificate has a form that this program does not judge yet.
+    /// The certificate shows denials, which this program does not judge yet.
     NotYet,
 }
 

@@ -5,6 +5,7 @@ ghost use Rattle.pbs_engine.specs.declared.stop.Stop.TheVariants.{NoMemory};
 use crate::file::File;
 use bid_language::BidFault;
 use cert_checker::No;
+use cert_text::CertFault;
 use duty_calendar::Memory;
 use field_text::FileFault;
 use rules_file::RuleFault;
@@ -26,8 +27,8 @@ pub enum InputFault {
 /// Why `check` says no.
 #[derive(Drop, Debug)]
 pub enum Refusal {
-    /// The certificate is no certificate text.
-    Certificate,
+    /// The certificate is no certificate text, from this line on.
+    Certificate(CertFault),
     /// The roster is no roster text of this month.
     Roster,
     /// The judge's first failing test.
@@ -39,7 +40,7 @@ pub enum Refusal {
 pub enum Stop {
     /// An input has a fault.
     BadInput(InputFault),
-    /// The file has a form that is not judged yet.
+    /// The certificate shows denials, which are not judged yet.
     NotYet(File),
     /// The answer is no.
     No(Refusal),

@@ -1,5 +1,6 @@
 //! Runs over files in memory.
 
+mod certificates;
 mod legality;
 mod months;
 
@@ -7,6 +8,7 @@ use crate::month::read_month;
 use crate::reading::read_texts;
 use crate::{Status, run};
 use bid_language::print_bids;
+use certificates::*;
 use duty_calendar::{Copied, List};
 use months::*;
 use roster_model::{Line, Problem};
@@ -45,6 +47,22 @@ fn words_of(alloc: Global, words: &[&str]) -> Result<Vec<String>, Fail> {
     Ok(list)
 }
 
+/// Runs these words over a shelf. The calls of the sink with these numbers fail.
+fn run_over(
+    alloc: Global,
+    words: &[&str],
+    shelf: &mut MemoryShelf,
+    failing: &[u64],
+) -> Result<Outcome, Fail> {
+    let words = words_of(alloc, words)?;
+    let mut out = MemorySink::new(alloc, List::from_vec(failing.to_vec(alloc)?));
+    let status = run(alloc, &words, shelf, &mut out);
+    Ok(Outcome {
+        status,
+        text: String::from_utf8(out.bytes().to_vec(alloc)?)?,
+    })
+}
+
 /// Runs these words over a month's files and further ones in their place. The calls of the shelf and of the sink with
 /// the numbers that are given beside them fail.
 fn outcome_of(
@@ -58,13 +76,7 @@ fn outcome_of(
     let mut shelf = MemoryShelf::new(alloc, List::from_vec(failing.0.to_vec(alloc)?));
     place_all(rt, alloc, &mut shelf, month)?;
     place_all(rt, alloc, &mut shelf, changed)?;
-    let words = words_of(alloc, words)?;
-    let mut out = MemorySink::new(alloc, List::from_vec(failing.1.to_vec(alloc)?));
-    let status = run(alloc, &words, &mut shelf, &mut out);
-    Ok(Outcome {
-        status,
-        text: String::from_utf8(out.bytes().to_vec(alloc)?)?,
-    })
+    run_over(alloc, words, &mut shelf, failing.1)
 }
 
 /// Says that a run ended so and printed this.
@@ -100,8 +112,97 @@ fn a_month_is_checked(rt: HostRuntime) -> Result<(), Fail> {
     assert_checks(&rt, alloc, &[], Status::Done, "yes\nvector 10\n")?;
     assert_rows(&rt, alloc, &ACCEPTED, Status::Done)?;
     assert_rows(&rt, alloc, &REFUSED, Status::No)?;
-    assert_rows(&rt, alloc, &ILLEGAL, Status::No)?;
-    assert_rows(&rt, alloc, &LATER, Status::NotYet)
+    assert_rows(&rt, alloc, &ILLEGAL, Status::No)
+}
+
+/// Says what `check` prints of a month, which has these files in place of the smallest month's, certificate by
+/// certificate.
+fn assert_cases(
+    rt: &impl Abort,
+    alloc: Global,
+    month: &[(&str, &[u8])],
+    cases: &[Case],
+) -> Result<(), Fail> {
+    for (certificate, text) in cases {
+        let mut shelf = MemoryShelf::new(alloc, List::new(alloc));
+        place_all(rt, alloc, &mut shelf, &SMALLEST)?;
+        place_all(rt, alloc, &mut shelf, month)?;
+        place_all(rt, alloc, &mut shelf, &[("certificate.txt", *certificate)])?;
+        let outcome = run_over(alloc, &["check"], &mut shelf, &[])?;
+        assert_ends(rt, &outcome, due_status(text), text);
+    }
+    Ok(())
+}
+
+/// How a run ends that prints this of a certificate.
+fn due_status(text: &str) -> Status {
+    match text.as_bytes() {
+        [b'y', ..] => Status::Done,
+        [b'n', b'o', b't', ..] => Status::NotYet,
+        _ => Status::No,
+    }
+}
+
+#[test]
+fn items_are_judged(rt: HostRuntime) -> Result<(), Fail> {
+    let alloc = rt.alloc();
+    assert_cases(&rt, alloc, &[], &ACCEPTED_LENSES)?;
+    assert_cases(&rt, alloc, &[], &REFUSED_ITEMS)?;
+    assert_cases(&rt, alloc, &[], &MISSPELT)
+}
+
+#[test]
+fn lines_are_priced(rt: HostRuntime) -> Result<(), Fail> {
+    let alloc = rt.alloc();
+    assert_cases(&rt, alloc, &SENIORITY, &RIVALS)
+}
+
+#[test]
+fn denials_are_not_judged_yet(rt: HostRuntime) -> Result<(), Fail> {
+    let alloc = rt.alloc();
+    assert_cases(&rt, alloc, &[], &LATER)?;
+    assert_cases(
+        &rt,
+        alloc,
+        &SENIORITY,
+        &[(SHOWN, "not yet certificate.txt\n")],
+    )
+}
+
+#[test]
+fn cut_certificates_are_short(rt: HostRuntime) -> Result<(), Fail> {
+    let alloc = rt.alloc();
+    let mut line: u32 = 1;
+    for (at, byte) in SHOWN.iter().enumerate() {
+        let text = format!(in alloc; "no certificate {line} 4\n")?;
+        let changed = [("certificate.txt", &SHOWN[..at])];
+        let outcome = outcome_of(&rt, alloc, &["check"], &SMALLEST, &changed, (&[], &[]))?;
+        assert_ends(&rt, &outcome, Status::No, &text);
+        if *byte == b'\n' {
+            line = line.saturating_add(1);
+        }
+    }
+    Ok(())
+}
+
+#[test]
+fn months_without_a_roster_are_judged(rt: HostRuntime) -> Result<(), Fail> {
+    let alloc = rt.alloc();
+    assert_cases(&rt, alloc, &THREE_WANTED, &NO_ROSTER)?;
+    let outcome = outcome_of(
+        &rt,
+        alloc,
+        &["check"],
+        &SMALLEST[..8],
+        &[
+            THREE_WANTED[0],
+            THREE_WANTED[1],
+            ("certificate.txt", NO_ROSTER[0].0),
+        ],
+        (&[], &[]),
+    )?;
+    assert_ends(&rt, &outcome, Status::Done, "yes none\n");
+    Ok(())
 }
 
 #[test]

@@ -4,17 +4,19 @@ ghost use Rattle.bid_language.specs.Codes.{bid_code};
 ghost use Rattle.pbs_engine.specs.declared.answer.Answer.TheVariants as answer;
 ghost use Rattle.pbs_engine.specs.declared.file.File.TheVariants.{Rules, Bids};
 ghost use Rattle.pbs_engine.specs.FileNames.{name_of};
-ghost use Rattle.pbs_engine.specs.Answers.{line, line_of, numbers, illegal_numbers, item_numbers, no_numbers, field_numbers, code_numbers, csv_file, bad, rule_text, input_text, refusal_text, text_of};
+ghost use Rattle.pbs_engine.specs.Answers.{line, line_of, numbers, illegal_numbers, lens_numbers, sum_text, item_text, no_text, field_numbers, code_numbers, csv_file, bad, rule_text, input_text, refusal_text, text_of};
 
 use crate::answer::Answer;
 use crate::file::File;
 use crate::stop::{InputFault, Refusal, Stop};
+use crate::verdict::Verdict;
 use bid_language::BidFault;
 use cert_checker::{ItemFault, No};
 use duty_calendar::{List, Memory};
 use field_text::{FieldFault, FileCode, FileFault, FileName, put_bytes};
 use itoa::Buffer;
 use line_legality::Illegal;
+use line_lens::LensFault;
 use rules_file::{Key, RuleFault};
 use std::alloc::Global;
 
@@ -91,21 +93,67 @@ fn illegal_numbers(why: Illegal) -> [u64; 2]
     }
 }
 
+/// Appends a lens's fault.
+fn put_lens_fault(out: &mut List<u8>, why: LensFault) -> Result<(), Memory>
+    ensures whole { OnOk result (out.new ≡ out.old ++ numbers (lens_numbers why)) }
+{
+    match why {
+        LensFault::Untrackable(bid) => put_numbers(out, &[1, u64::from(bid) + 1]),
+        LensFault::Windows(count) => put_numbers(out, &[2, u64::from(count)]),
+        LensFault::Window(index) => put_numbers(out, &[3, u64::from(index) + 1]),
+        LensFault::Grain => put_numbers(out, &[4]),
+    }
+}
+
+/// Appends a sum of weights behind a space.
+fn put_sum(out: &mut List<u8>, sum: i64) -> Result<(), Memory>
+    ensures whole { OnOk result (out.new ≡ out.old ++ sum_text sum) }
+{
+    if sum < 0 {
+        put_bytes(out, b" -")?;
+        return put_count(out, sum.unsigned_abs());
+    }
+    put_bytes(out, b" ")?;
+    put_count(out, sum.unsigned_abs())
+}
+
+/// Appends an item's fault.
+fn put_item_fault(out: &mut List<u8>, why: ItemFault) -> Result<(), Memory>
+    ensures whole { OnOk result (out.new ≡ out.old ++ item_text why) }
+{
+    match why {
+        ItemFault::Index => put_numbers(out, &[1]),
+        ItemFault::Decided => put_numbers(out, &[2]),
+        ItemFault::Covered => put_numbers(out, &[3]),
+        ItemFault::Undecided(pairing) => put_numbers(out, &[4, u64::from(pairing) + 1]),
+        ItemFault::Fits => put_numbers(out, &[5]),
+        ItemFault::Lens(member, why) => {
+            put_numbers(out, &[6, u64::from(member) + 1])?;
+            put_lens_fault(out, why)
+        }
+        ItemFault::Line(member) => put_numbers(out, &[7, u64::from(member) + 1]),
+        ItemFault::Nothing(member) => put_numbers(out, &[8, u64::from(member) + 1]),
+        ItemFault::Sum(lines, needs) => {
+            put_numbers(out, &[9])?;
+            put_sum(out, lines)?;
+            put_sum(out, needs)
+        }
+        ItemFault::Width(weights, lenses) => {
+            put_numbers(out, &[10, u64::from(weights), u64::from(lenses)])
+        }
+    }
+}
+
 /// The line of an item's fault.
 fn item_line(alloc: Global, search: u32, at: u32, why: ItemFault) -> Result<List<u8>, Memory>
-    ensures value { IfOk result (λ t. t ≡ line_of (codes "no") (4 ∷ (search + 1) ∷ (at + 1) ∷ item_numbers why)) }
+    ensures value { IfOk result (λ t. t ≡ line (codes "no" ++ numbers (4 ∷ (search + 1) ∷ (at + 1) ∷ []) ++ item_text why)) }
 {
-    let search = u64::from(search) + 1;
-    let at = u64::from(at) + 1;
-    match why {
-        ItemFault::Index => numbered(alloc, b"no", &[4, search, at, 1]),
-        ItemFault::Decided => numbered(alloc, b"no", &[4, search, at, 2]),
-        ItemFault::Covered => numbered(alloc, b"no", &[4, search, at, 3]),
-        ItemFault::Undecided(pairing) => {
-            numbered(alloc, b"no", &[4, search, at, 4, u64::from(pairing) + 1])
-        }
-        ItemFault::Fits => numbered(alloc, b"no", &[4, search, at, 5]),
-    }
+    let mut out = List::new(alloc);
+    put_bytes(&mut out, b"no")?;
+    put_numbers(&mut out, &[4, u64::from(search) + 1, u64::from(at) + 1])?;
+    put_item_fault(&mut out, why)?;
+    put_bytes(&mut out, b"\n")?;
+    Ok(out)
 }
 
 /// The line of an illegal line.
@@ -118,7 +166,7 @@ fn member_line(alloc: Global, member: u32, why: Illegal) -> Result<List<u8>, Mem
 
 /// The line of the judge's first failing test.
 fn no_line(alloc: Global, why: No) -> Result<List<u8>, Memory>
-    ensures value { IfOk result (λ t. t ≡ line_of (codes "no") (no_numbers why)) }
+    ensures value { IfOk result (λ t. t ≡ line (codes "no" ++ no_text why)) }
 {
     match why {
         No::NoMemory => numbered(alloc, b"no", &[0]),
@@ -274,7 +322,11 @@ fn refusal_line(alloc: Global, why: &Refusal) -> Result<List<u8>, Memory>
     ensures value { IfOk result (λ t. t ≡ refusal_text why.now) }
 {
     match why {
-        Refusal::Certificate => line_text(alloc, b"no certificate"),
+        Refusal::Certificate(fault) => numbered(
+            alloc,
+            b"no certificate",
+            &[u64::from(fault.line), u64::from(fault.code.code())],
+        ),
         Refusal::Roster => line_text(alloc, b"no roster"),
         Refusal::Judged(no) => no_line(alloc, *no),
     }
@@ -296,7 +348,7 @@ fn stop_text(alloc: Global, stop: &Stop) -> Result<List<u8>, Memory>
 }
 
 /// The lines of an accepted award.
-fn accepted_text(alloc: Global, scores: &List<u32>) -> Result<List<u8>, Memory>
+fn award_text(alloc: Global, scores: &List<u32>) -> Result<List<u8>, Memory>
     ensures value { IfOk result (λ t. t ≡ line (codes "yes") ++ line_of (codes "vector") scores.now) }
 {
     let mut out = line_text(alloc, b"yes")?;
@@ -323,7 +375,8 @@ pub fn text_of(alloc: Global, answer: &Answer) -> Result<List<u8>, Memory>
 {
     match answer {
         Answer::Usage => line_text(alloc, USAGE),
-        Answer::Accepted(scores) => accepted_text(alloc, scores),
+        Answer::Accepted(Verdict::Award(scores)) => award_text(alloc, scores),
+        Answer::Accepted(Verdict::NoRoster) => line_text(alloc, b"yes none"),
         Answer::Stopped(stop) => stop_text(alloc, stop),
     }
 }

@@ -119,66 +119,66 @@ pub const REFUSED: [Row; 34] = [
         b"pbs-certificate 1\naward 2 0\nproof 3\nsplit 1 1\nfixed 1\ncount 1\nproof 3\nsplit 1 1\nfixed 1\ncount 1\nend\n",
         "no 3 2\n",
     ),
-    ("certificate.txt", b"", "no certificate\n"),
+    ("certificate.txt", b"", "no certificate 1 4\n"),
     (
         "certificate.txt",
         b"pbs-certificate 1\naward 1 0\nproof 3\nsplit 1 1\nfixed 1\ncount 1\nend",
-        "no certificate\n",
+        "no certificate 7 4\n",
     ),
     (
         "certificate.txt",
         b"pbs-certificate 1\naward 1 0\nproof 3\nsplit 1 1\nfixed 1\ncount 1\n",
-        "no certificate\n",
+        "no certificate 7 4\n",
     ),
     (
         "certificate.txt",
         b"pbs-certificate 1\naward 1 0\nproof 3\nsplit 1 1\nfixed 1\ncount 1\nend\nend\n",
-        "no certificate\n",
+        "no certificate 8 5\n",
     ),
     (
         "certificate.txt",
         b"pbs-certificate 1\naward 1 0\nproof 1\nsplit 01 1\nend\n",
-        "no certificate\n",
+        "no certificate 4 3\n",
     ),
     (
         "certificate.txt",
         b"pbs-certificate 1\naward 1 0\nproof 1\nsplit 0 1\nend\n",
-        "no certificate\n",
+        "no certificate 4 3\n",
     ),
     (
         "certificate.txt",
         b"pbs-certificate 1\naward 1 0\nproof 1\nsplit 1  1\nend\n",
-        "no certificate\n",
+        "no certificate 4 3\n",
     ),
     (
         "certificate.txt",
         b"pbs-certificate 1\naward 1 0\nproof 1\nsplit 1 10000\nend\n",
-        "no certificate\n",
+        "no certificate 4 6\n",
     ),
     (
         "certificate.txt",
         b"pbs-certificate 1\r\naward 1 0\r\nproof 3\r\nsplit 1 1\r\nfixed 1\r\ncount 1\r\nend\r\n",
-        "no certificate\n",
+        "no certificate 1 1\n",
     ),
     (
         "certificate.txt",
         b"pbs-certificate 2\naward 1 0\nproof 3\nsplit 1 1\nfixed 1\ncount 1\nend\n",
-        "no certificate\n",
+        "no certificate 1 1\n",
     ),
     (
         "certificate.txt",
         b"pbs-certificate 1\naward 1 0\nproof 2\nsplit 1 1\nfixed 1\ncount 1\nend\n",
-        "no certificate\n",
+        "no certificate 6 2\n",
     ),
     (
         "certificate.txt",
         b"pbs-certificate 1\naward 1 0\nproof 4294967296\nsplit 1 1\nfixed 1\ncount 1\nend\n",
-        "no certificate\n",
+        "no certificate 3 6\n",
     ),
     (
         "certificate.txt",
         b"pbs-certificate 1\naward 201 0\nproof 3\nsplit 1 1\nfixed 1\ncount 1\nend\n",
-        "no certificate\n",
+        "no certificate 2 6\n",
     ),
     (
         "roster.csv",
@@ -260,26 +260,6 @@ pub const ILLEGAL: [Row; 5] = [
         b"base = \"DUB\"\nseat = \"FO\"\nyear = 2026\nmonth = 6\noffset = 0\ndays_off = 30\n",
         "no 1 1 9 29\n",
     ),
-];
-
-/// Certificates of items and forms that are not judged yet.
-pub const LATER: [Row; 4] = [
-    (
-        "certificate.txt",
-        b"pbs-certificate 1\naward 1 0\nproof 1\nnoline 1 60 0000000000000000 0 0\nend\n",
-        "not yet certificate.txt\n",
-    ),
-    (
-        "certificate.txt",
-        b"pbs-certificate 1\nnone\nproof 1\ncount 1\nend\n",
-        "not yet certificate.txt\n",
-    ),
-    (
-        "certificate.txt",
-        b"pbs-certificate 1\naward 1 0\nproof 2\nweights 1 -1\nlens\nend\n",
-        "not yet certificate.txt\n",
-    ),
-    ("certificate.txt", b"shown\n", "not yet certificate.txt\n"),
 ];
 
 /// Bids with a fault of each code.
@@ -590,6 +570,15 @@ pub const SENIORITY: [(&str, &[u8]); 4] = [
     (
         "roster.csv",
         b"member,pairings,credit,score\nM1,P1,5:00,10\nM2,,0:00,0\n",
+    ),
+];
+
+/// The two members are to crew a pairing of three, and no roster is there.
+pub const THREE_WANTED: [(&str, &[u8]); 2] = [
+    ("pairings.csv", b"pairing,need,credit\nP1,3,5:00\n"),
+    (
+        "crew.csv",
+        b"member,low,high\nM1,0:00,90:00\nM2,0:00,90:00\n",
     ),
 ];
 

@@ -1,7 +1,9 @@
 use Rattle.std.proofs.Common.{ℕ, List, Ok, Err, ◌∙◌, subst}
 use Rattle.std.proofs.lemmas.Result.{err_from_is_err_and}
-use Rattle.pbs_engine.specs.Stages.{view_given, AreProofsOf, IsRosterOf}
-use Rattle.pbs_engine.proofs.CheckLaws.{ends_at_given, ends_at_month, ends_at_proofs, ends_at_text, ends_at_roster, judged}
+use Rattle.roster_model.specs.declared.award.Certificate.{Certificate}
+use Rattle.pbs_engine.specs.Checks.{NamesCertificate}
+use Rattle.pbs_engine.specs.Stages.{view_given, IsCertificateOf}
+use Rattle.pbs_engine.proofs.CheckLaws.{ends_at_given, ends_at_month, ends_at_certificate, names_certificate, judged_none}
 use Rattle.pbs_engine.proofs.check.check.Goals as goal
 
 pub returns-in_err-texts-clause-told : goal.returns-in_err-texts-clause-told
@@ -14,29 +16,20 @@ returns-in_err-problem-clause-told g c = λ files told.
     let p = err_from_is_err_and c.from_residual-in_err-problem.result c.from_residual-in_err-problem.ensures.1 in
     rw (p.1, p.2) (ends_at_month files (view_given (c.in_ok-texts.texts, c.in_ok-texts.certificate)) (c.in_ok-texts.ensures.told files told) c.in_err-problem.field-0.0 c.in_err-problem.ensures.month)
 
-pub returns-in_err-proofs-clause-told : goal.returns-in_err-proofs-clause-told
-returns-in_err-proofs-clause-told g c = λ files told.
-    let p = err_from_is_err_and c.from_residual-in_err-proofs.result c.from_residual-in_err-proofs.ensures.1 in
-    rw (p.1, p.2) (ends_at_proofs files (view_given (c.in_ok-texts.texts, c.in_ok-texts.certificate)) (c.in_ok-texts.ensures.told files told) c.in_ok-problem.problem c.in_ok-problem.ensures.month
-    c.in_err-proofs.field-0.0 (subst (λ (b : List ℕ). AreProofsOf b (Err c.in_err-proofs.field-0.0)) c.deref.ensures.value c.in_err-proofs.ensures.read))
+pub returns-in_err-awarded-clause-told : goal.returns-in_err-awarded-clause-told
+returns-in_err-awarded-clause-told g c = λ files told.
+    let p = err_from_is_err_and c.from_residual-in_err-awarded.result c.from_residual-in_err-awarded.ensures.1 in
+    rw (p.1, p.2) (ends_at_certificate files (view_given (c.in_ok-texts.texts, c.in_ok-texts.certificate)) (c.in_ok-texts.ensures.told files told) c.in_ok-problem.problem c.in_ok-problem.ensures.month
+    c.in_err-awarded.field-0.0 (subst (λ (b : List ℕ). IsCertificateOf b (Err c.in_err-awarded.field-0.0)) c.deref.ensures.value c.in_err-awarded.ensures.read))
 
-pub returns-in_err-text-clause-told : goal.returns-in_err-text-clause-told
-returns-in_err-text-clause-told g c = λ files told.
-    let p = err_from_is_err_and c.from_residual-in_err-text.result c.from_residual-in_err-text.ensures.1 in
-    rw (p.1, p.2) (ends_at_text files (view_given (c.in_ok-texts.texts, c.in_ok-texts.certificate)) (c.in_ok-texts.ensures.told files told) c.in_ok-problem.problem c.in_ok-problem.ensures.month
-    c.in_ok-proofs.proofs (subst (λ (b : List ℕ). AreProofsOf b (Ok c.in_ok-proofs.proofs)) c.deref.ensures.value c.in_ok-proofs.ensures.read) c.in_err-text.field-0.0 (c.in_err-text.ensures.told files (c.in_ok-texts.ensures.kept ∙ told)))
-
-pub returns-in_err-roster-clause-told : goal.returns-in_err-roster-clause-told
-returns-in_err-roster-clause-told g c = λ files told.
-    let p = err_from_is_err_and c.from_residual-in_err-roster.result c.from_residual-in_err-roster.ensures.1 in
-    rw (p.1, p.2) (ends_at_roster files (view_given (c.in_ok-texts.texts, c.in_ok-texts.certificate)) (c.in_ok-texts.ensures.told files told) c.in_ok-problem.problem c.in_ok-problem.ensures.month
-    c.in_ok-proofs.proofs (subst (λ (b : List ℕ). AreProofsOf b (Ok c.in_ok-proofs.proofs)) c.deref.ensures.value c.in_ok-proofs.ensures.read)
-    c.in_ok-text.text.items (c.in_ok-text.ensures.told files (c.in_ok-texts.ensures.kept ∙ told))
-    c.in_err-roster.field-0.0 (subst (λ (b : List ℕ). IsRosterOf c.in_ok-problem.problem b (Err c.in_err-roster.field-0.0)) c.deref-2.ensures.value c.in_err-roster.ensures.read))
+pub returns-in-Award-clause-told : goal.returns-in-Award-clause-told
+returns-in-Award-clause-told g c = λ files told.
+    let named = names_certificate files (view_given (c.in_ok-texts.texts, c.in_ok-texts.certificate)) (c.in_ok-texts.ensures.told files told) c.in_ok-problem.problem c.in_ok-problem.ensures.month
+    c.in_ok-awarded.field-0 (subst (λ (b : List ℕ). IsCertificateOf b (Ok c.in_ok-awarded.field-0)) c.deref.ensures.value c.in_ok-awarded.ensures.read) in
+    c.check_award.ensures.told files (c.in_ok-texts.ensures.kept ∙ told) (subst (λ (x : Certificate). NamesCertificate files c.in_ok-problem.problem x) c.in-Award.is named)
 
 pub returns-clause-told : goal.returns-clause-told
 returns-clause-told g c = λ files told.
-    judged files (view_given (c.in_ok-texts.texts, c.in_ok-texts.certificate)) (c.in_ok-texts.ensures.told files told) c.in_ok-problem.problem c.in_ok-problem.ensures.month
-    c.in_ok-proofs.proofs (subst (λ (b : List ℕ). AreProofsOf b (Ok c.in_ok-proofs.proofs)) c.deref.ensures.value c.in_ok-proofs.ensures.read)
-    c.in_ok-text.text.items (c.in_ok-text.ensures.told files (c.in_ok-texts.ensures.kept ∙ told))
-    c.in_ok-roster.roster (subst (λ (b : List ℕ). IsRosterOf c.in_ok-problem.problem b (Ok c.in_ok-roster.roster)) c.deref-2.ensures.value c.in_ok-roster.ensures.read) c.verdict.result c.verdict.ensures.judged
+    let named = names_certificate files (view_given (c.in_ok-texts.texts, c.in_ok-texts.certificate)) (c.in_ok-texts.ensures.told files told) c.in_ok-problem.problem c.in_ok-problem.ensures.month
+    c.in_ok-awarded.field-0 (subst (λ (b : List ℕ). IsCertificateOf b (Ok c.in_ok-awarded.field-0)) c.deref.ensures.value c.in_ok-awarded.ensures.read) in
+    judged_none files c.in_ok-problem.problem c.in-NoRoster.proof (subst (λ (x : Certificate). NamesCertificate files c.in_ok-problem.problem x) c.in-NoRoster.is named) c.none_verdict.result c.none_verdict.ensures.judged

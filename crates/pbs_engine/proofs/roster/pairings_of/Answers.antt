@@ -3,7 +3,7 @@ use Rattle.std.specs.Prelude.{IfOk, All}
 use Rattle.std.specs.Borrow.{Bor}
 use Rattle.roster_model.specs.declared.problem.Problem.{Problem}
 use Rattle.pbs_engine.specs.declared.text_fault.TextFault.{TextFault}
-use Rattle.pbs_engine.specs.CertificateReading.{Gives}
+use Rattle.pbs_engine.specs.TextReading.{Gives}
 use Rattle.pbs_engine.specs.RosterReading.{line_at}
 use Rattle.pbs_engine.proofs.RosterLaws.{line_takes}
 use Rattle.pbs_engine.proofs.roster.pairings_of.Goals as goal

@@ -1,5 +1,5 @@
 use Rattle.std.proofs.Common.{ap, subst, ◌∙◌}
-use Rattle.pbs_engine.specs.CertificateReading.{Gives}
+use Rattle.pbs_engine.specs.TextReading.{Gives}
 use Rattle.pbs_engine.specs.RosterReading.{roster_of}
 use Rattle.pbs_engine.proofs.RosterLaws.{roster_found, roster_again}
 use Rattle.pbs_engine.proofs.roster.read_roster.Goals as goal

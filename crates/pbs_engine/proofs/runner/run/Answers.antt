@@ -1,4 +1,4 @@
-use Rattle.pbs_engine.proofs.Rows.{run_row}
+use Rattle.pbs_engine.proofs.Rows.{run_cause, run_row}
 use Rattle.pbs_engine.proofs.Standing.{yes_stands}
 use Rattle.pbs_engine.proofs.runner.run.Goals as goal
 
@@ -9,3 +9,7 @@ returns-clause-stands g c = λ files told done.
 pub returns-clause-rows : goal.returns-clause-rows
 returns-clause-rows g c = λ files told.
     run_row _ files _ _ c.answer-told.result _ c.answer-told.ensures.answered.fits (c.answer-told.ensures.answered.told files told) _ _ c.say.ensures.said
+
+pub returns-clause-cause : goal.returns-clause-cause
+returns-clause-cause g c =
+    run_cause _ _ _ _ c.answer-told.result _ _ c.say.result c.answer-told.ensures.answered.cause c.say.ensures.said
