@@ -148,6 +148,7 @@ fn items_are_judged(rt: HostRuntime) -> Result<(), Fail> {
     let alloc = rt.alloc();
     assert_cases(&rt, alloc, &[], &ACCEPTED_LENSES)?;
     assert_cases(&rt, alloc, &[], &REFUSED_ITEMS)?;
+    assert_cases(&rt, alloc, &TWO_WANTED, &UNTRACKED)?;
     assert_cases(&rt, alloc, &[], &MISSPELT)
 }
 
@@ -165,7 +166,10 @@ fn denials_are_not_judged_yet(rt: HostRuntime) -> Result<(), Fail> {
         &rt,
         alloc,
         &SENIORITY,
-        &[(SHOWN, "not yet certificate.txt\n")],
+        &[
+            (SHOWN, "not yet certificate.txt\n"),
+            (SHOWN_TWICE_ENDED, "no certificate 17 5\n"),
+        ],
     )
 }
 

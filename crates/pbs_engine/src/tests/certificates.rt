@@ -208,6 +208,26 @@ pub const RIVALS: [Case; 14] = [
 pub const SHOWN: &[u8] =
     b"pbs-certificate 1\naward 2 1\nproof 1\nnoline 1 60 0000000000000000 0 0\nproof 1\nweights 2 -1\nlens 60 0000000000000001 0 0\nlens 60 0000000000000001 0 0\nshown 1 2\nproof 1\nweights 2 -1\nlens 60 0000000000000001 0 0\nlens 60 0000000000000001 0 0\nline\nline 1\nend\n";
 
+/// The same with one more line behind its end.
+pub const SHOWN_TWICE_ENDED: &[u8] =
+    b"pbs-certificate 1\naward 2 1\nproof 1\nnoline 1 60 0000000000000000 0 0\nproof 1\nweights 2 -1\nlens 60 0000000000000001 0 0\nlens 60 0000000000000001 0 0\nshown 1 2\nproof 1\nweights 2 -1\nlens 60 0000000000000001 0 0\nlens 60 0000000000000001 0 0\nline\nline 1\nend\nend\n";
+
+/// Certificates of the month in which the one bid can't be tracked.
+pub const UNTRACKED: [Case; 3] = [
+    (
+        b"pbs-certificate 1\naward 1 0\nproof 1\nnoline 1 60 0000000000000001 0 0\nend\n",
+        "no 4 1 1 6 1 1 1\n",
+    ),
+    (
+        b"pbs-certificate 1\naward 1 0\nproof 1\nnoline 1 60 0000000000000000 0 0\nend\n",
+        "no 4 1 1 7 1\n",
+    ),
+    (
+        b"pbs-certificate 1\naward 1 0\nproof 3\nsplit 1 1\nfixed 1\nfixed 1\nend\n",
+        "yes\nvector 0\n",
+    ),
+];
+
 /// Certificates of an award with denials, of whatever is shown for them.
 pub const LATER: [Case; 3] = [
     (

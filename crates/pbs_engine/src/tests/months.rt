@@ -573,6 +573,15 @@ pub const SENIORITY: [(&str, &[u8]); 4] = [
     ),
 ];
 
+/// The one bid asks for two pairings, so that it can't be tracked, and there is one.
+pub const TWO_WANTED: [(&str, &[u8]); 2] = [
+    ("bids.txt", b"member M1\n10 prefer 2 days 1\n"),
+    (
+        "roster.csv",
+        b"member,pairings,credit,score\nM1,P1,5:00,0\n",
+    ),
+];
+
 /// The two members are to crew a pairing of three, and no roster is there.
 pub const THREE_WANTED: [(&str, &[u8]); 2] = [
     ("pairings.csv", b"pairing,need,credit\nP1,3,5:00\n"),
