@@ -1,6 +1,7 @@
 //! Runs over files in memory.
 
 mod certificates;
+mod faults;
 mod legality;
 mod months;
 
@@ -10,6 +11,7 @@ use crate::{Status, run};
 use bid_language::print_bids;
 use certificates::*;
 use duty_calendar::{Copied, List};
+use faults::*;
 use months::*;
 use roster_model::{Line, Problem};
 use shelf::{MemoryShelf, MemorySink};
