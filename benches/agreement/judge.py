@@ -1,0 +1,197 @@
+"""The judge of certificates, written from docs/FORMATS.md. Members, pairings and bids count from 0 here.
+
+A lens is (grain, tracked, free30, days, windows), a node a tuple of decisions (member, pairing, flies), and an item one
+of ("split", m, p), ("count", p), ("fixed", m), ("noline", m, lens) and ("weights", weights, lenses).
+"""
+import itertools
+
+import law
+
+WIDTHS = {"f672": 40_320, "d672": 40_320, "d168": 10_080}
+MOST = {"f672": 6_000, "d672": 11_400, "d168": 3_600, "f365": 60_000}
+
+
+def lines(month):
+    numbers = range(len(month.pairings))
+    return [line for n in range(len(numbers) + 1) for line in itertools.combinations(numbers, n)]
+
+
+def is_window(kind, start):
+    if kind == "f365":
+        return 365 <= start <= 371 + law.DAYS
+    return law.MONTH - WIDTHS[kind] < start < law.END
+
+
+def keeps(month, member, line, kind, start):
+    if kind == "f365":
+        begin, end = 1440 * (start - 364), 1440 * (start + 1)
+    else:
+        begin, end = start, start + WIDTHS[kind]
+    intervals = law.flying_intervals if kind[0] == "f" else law.period_intervals
+    return law.minutes_in(intervals(month, member, line), begin, end) <= MOST[kind]
+
+
+def lens_fault(member, lens):
+    grain, tracked, _, _, windows = lens
+    for bid in range(64):
+        if tracked >> bid & 1 and not (bid < len(member.bids) and law.can_be_tracked(member.bids[bid][1])):
+            return [1, bid + 1]
+    if len(windows) > 16:
+        return [2, len(windows)]
+    for number, (kind, start) in enumerate(windows):
+        if not is_window(kind, start):
+            return [3, number + 1]
+    return None if grain in (60, 30, 15, 5, 1) else [4]
+
+
+def lens_score(month, member, tracked, line):
+    return sum(
+        weight
+        for bid, (weight, wish) in enumerate(member.bids)
+        if not tracked >> bid & 1 or law.is_granted(month, member, wish, line)
+    )
+
+
+def passes(month, m, floors, node, lens, line):
+    member = month.members[m]
+    grain, tracked, free30, days, windows = lens
+    fixed = sum(e.credit for e in member.fixed)
+    down = fixed + sum(month.pairings[p].credit // grain * grain for p in line)
+    up = fixed + sum(-(-month.pairings[p].credit // grain) * grain for p in line)
+    return (
+        all((p in line) == flies for of, p, flies in node if of == m)
+        and law.overlap(month, member, line) is None
+        and law.short_rest(month, member, line) is None
+        and down <= member.high
+        and member.low <= up
+        and (m >= len(floors) or floors[m] <= lens_score(month, member, tracked, line))
+        and not (free30 and law.no_free_block(month, member, line) is not None)
+        and not (days and law.days_off(month, member, line) < month.days_off)
+        and all(keeps(month, member, line, *window) for window in windows)
+    )
+
+
+def lens_lines(month, m, floors, node, lens):
+    return [line for line in lines(month) if passes(month, m, floors, node, lens, line)]
+
+
+def decided(node, m, p):
+    return next((flies for of, pairing, flies in node if (of, pairing) == (m, p)), None)
+
+
+def split_fault(month, floors, node, m, p):
+    if m >= len(month.members) or p >= len(month.pairings):
+        return [1]
+    return None if decided(node, m, p) is None else [2]
+
+
+def count_fault(month, floors, node, p):
+    if p >= len(month.pairings):
+        return [1]
+    decisions = [decided(node, m, p) for m in range(len(month.members))]
+    need = month.pairings[p].need
+    miscrewed = decisions.count(True) > need or len(decisions) - decisions.count(False) < need
+    return None if miscrewed else [3]
+
+
+def fixed_fault(month, floors, node, m):
+    if m >= len(month.members):
+        return [1]
+    decisions = [decided(node, m, p) for p in range(len(month.pairings))]
+    if None in decisions:
+        return [4, decisions.index(None) + 1]
+    line = tuple(p for p, flies in enumerate(decisions) if flies)
+    member = month.members[m]
+    serves = law.illegality(month, member, line) is None
+    serves = serves and (m >= len(floors) or floors[m] <= law.score(month, member, line))
+    return [5] if serves else None
+
+
+def noline_fault(month, floors, node, m, lens):
+    if m >= len(month.members):
+        return [1]
+    shape = lens_fault(month.members[m], lens)
+    if shape:
+        return [6, m + 1] + shape
+    return [7, m + 1] if lens_lines(month, m, floors, node, lens) else None
+
+
+def weights_fault(month, floors, node, weights, lenses):
+    if len(weights) != len(month.pairings) or len(lenses) != len(month.members):
+        return [10, len(weights), len(lenses)]
+    for m, lens in enumerate(lenses):
+        shape = lens_fault(month.members[m], lens)
+        if shape:
+            return [6, m + 1] + shape
+    together = 0
+    for m, lens in enumerate(lenses):
+        found = lens_lines(month, m, floors, node, lens)
+        if not found:
+            return [8, m + 1]
+        together += max(sum(weights[p] for p in line) for line in found)
+    needs = sum(pairing.need * weight for pairing, weight in zip(month.pairings, weights))
+    return None if together < needs else [9, together, needs]
+
+
+FAULTS = {
+    "split": split_fault,
+    "count": count_fault,
+    "fixed": fixed_fault,
+    "noline": noline_fault,
+    "weights": weights_fault,
+}
+
+
+def item_fault(month, floors, node, item):
+    return FAULTS[item[0]](month, floors, node, *item[1:])
+
+
+def proof_fault(month, floors, number, items):
+    """What is printed of the proof of this number where it does not close the goal, else None."""
+    pending = [()]
+    for at, item in enumerate(items):
+        if not pending:
+            return [5, number]
+        node = pending.pop()
+        fault = item_fault(month, floors, node, item)
+        if fault:
+            return [4, number, at + 1] + fault
+        if item[0] == "split":
+            pending += [node + ((*item[1:], False),), node + ((*item[1:], True),)]
+    return [5, number] if pending else None
+
+
+def roster_fault(month, roster):
+    for m, line in enumerate(roster):
+        broken = law.illegality(month, month.members[m], line)
+        if broken:
+            return [1, m + 1, *broken]
+    for p, pairing in enumerate(month.pairings):
+        crew = sum(p in line for line in roster)
+        if crew != pairing.need:
+            return [2, p + 1, crew]
+    return None
+
+
+def goal_above(scores, place):
+    return scores[:place] + [scores[place] + 1]
+
+
+def award_fault(month, roster, scores, proofs):
+    fault = roster_fault(month, roster)
+    if fault is None and len(proofs) != len(month.members):
+        fault = [3, len(proofs)]
+    for place, items in enumerate(proofs):
+        fault = fault or proof_fault(month, goal_above(scores, place), place + 1, items)
+    return fault
+
+
+def best_roster(month):
+    """The greatest vector and a roster that has it, found by trying all, or None."""
+    legal = [[line for line in lines(month) if not law.illegality(month, m, line)] for m in month.members]
+    found = [
+        ([law.score(month, m, line) for m, line in zip(month.members, roster)], roster)
+        for roster in itertools.product(*legal)
+        if not roster_fault(month, roster)
+    ]
+    return max(found, default=None)
