@@ -17,7 +17,8 @@ def duty(pick, report):
 
 
 def pairing(pick, number):
-    made = law.Pairing(f"P{number + 1}", pick.choice([1] * 9 + [2]), pick.choice([61, 300, 305, 330, 599, 600]), [], [], [])
+    need, credit = pick.choice([1] * 9 + [2]), pick.choice([61, 300, 305, 330, 599, 600])
+    made = law.Pairing(f"P{number + 1}", need, credit, [], [], [])
     report = law.MONTH + 1440 * pick.randint(4, 24) + pick.choice([0, 30, 480, 487, 600, 1439])
     for _ in range(pick.randint(1, 2)):
         made.duties.append(duty(pick, report))
@@ -185,7 +186,8 @@ def roster_text(month, roster, scores):
 
 def lens_text(lens):
     grain, tracked, free30, days, windows = lens
-    return " ".join([str(grain), f"{tracked:016x}", str(int(free30)), str(int(days)), *(f"{k}:{s}" for k, s in windows)])
+    words = [str(grain), f"{tracked:016x}", str(int(free30)), str(int(days))]
+    return " ".join(words + [f"{kind}:{start}" for kind, start in windows])
 
 
 def item_text(word, *parts):

@@ -1,0 +1,156 @@
+"""Which texts are certificates, and where the others stop being one, written from docs/FORMATS.md."""
+import re
+
+VERSION, WORD, NUMBER, SHORT, TRAILING, LIMIT = range(1, 7)
+MOST_WEIGHT, MOST_MINUTES = 2_147_483_647, 4_294_967_295
+
+
+class Fault(Exception):
+    """A code; the line is the one that was read last."""
+
+
+class Words:
+    """The words of a line behind its first. Each is read by its form, and limits are looked at when all are read."""
+
+    def __init__(self, words):
+        self.words, self.beyond = words, False
+
+    def take(self, form):
+        if not self.words or not re.fullmatch(form, self.words[0]):
+            raise Fault(NUMBER)
+        return self.words.pop(0)
+
+    def limit(self, number, most):
+        self.beyond = self.beyond or number > most
+        return number
+
+    def number(self, most, form="0|[1-9][0-9]*"):
+        return self.limit(int(self.take(form)), most)
+
+    def place(self):
+        return self.number(9_999, "[1-9][0-9]*")
+
+    def weight(self):
+        return self.limit(abs(int(self.take("0|-?[1-9][0-9]*"))), MOST_WEIGHT)
+
+    def window(self):
+        self.limit(int(self.take("(f672|d672|d168|f365):(0|[1-9][0-9]*)").split(":")[1]), MOST_MINUTES)
+
+    def lens(self):
+        self.number(MOST_MINUTES)
+        self.take("[0-9a-f]{16}")
+        self.take("[01]")
+        self.take("[01]")
+        self.limit(self.all(self.window), 64)
+
+    def row(self):
+        places = []
+        self.limit(self.all(lambda: places.append(self.place())), 600)
+        if any(later <= earlier for earlier, later in zip(places, places[1:])):
+            raise Fault(NUMBER)
+
+    def all(self, one):
+        count = 0
+        while self.words:
+            one()
+            count += 1
+        return count
+
+    def end(self):
+        if self.words:
+            raise Fault(NUMBER)
+        if self.beyond:
+            raise Fault(LIMIT)
+
+
+class Reader:
+    def __init__(self, text):
+        self.rest, self.line = text, 0
+
+    def next(self, *firsts):
+        """The next line's first word, which is one of these, and the words behind it."""
+        self.line += 1
+        line, feed, self.rest = self.rest.partition(b"\n")
+        if not feed:
+            raise Fault(SHORT)
+        first, *others = line.decode("latin-1").split(" ")
+        if firsts and first not in firsts:
+            raise Fault(WORD)
+        return first, Words(others)
+
+    def version(self):
+        first, words = self.next()
+        if [first, *words.words] != ["pbs-certificate", "1"]:
+            raise Fault(VERSION)
+
+    def bare(self, words):
+        if words.words:
+            raise Fault(WORD)
+
+    def item(self):
+        first, words = self.next("split", "count", "fixed", "noline", "weights")
+        lenses = words.number(200) if first == "weights" else 0
+        if first == "weights":
+            words.limit(words.all(words.weight), 600)
+        else:
+            words.place()
+        if first == "split":
+            words.place()
+        if first == "noline":
+            words.lens()
+        words.end()
+        for _ in range(lenses):
+            self.of_lens()
+
+    def of_lens(self):
+        _, words = self.next("lens")
+        words.lens()
+        words.end()
+
+    def proof(self):
+        _, words = self.next("proof")
+        count = words.number(40_001)
+        words.end()
+        for _ in range(count):
+            self.item()
+
+    def shown(self):
+        _, words = self.next("shown")
+        proofs, rows = int(words.take("[01]")), words.number(200)
+        words.end()
+        for _ in range(proofs):
+            self.proof()
+        for _ in range(rows):
+            _, words = self.next("line")
+            words.row()
+            words.end()
+
+    def award(self, words):
+        places, denials = words.number(200), words.number(12_800)
+        words.end()
+        for _ in range(places):
+            self.proof()
+        for _ in range(denials):
+            self.shown()
+        return denials
+
+    def whole(self):
+        """How many denials are shown, and None without a roster."""
+        self.version()
+        first, words = self.next("award", "none")
+        denials = self.award(words) if first == "award" else self.bare(words) or self.proof()
+        _, words = self.next("end")
+        self.bare(words)
+        if self.rest:
+            self.line += 1
+            raise Fault(TRAILING)
+        return denials
+
+
+def read(text):
+    """The line and code of the fault, or None, and how many denials are shown."""
+    reader = Reader(text)
+    try:
+        return None, reader.whole()
+    except Fault as fault:
+        return (reader.line, fault.args[0]), None
