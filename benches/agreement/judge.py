@@ -1,4 +1,4 @@
-"""The judge of certificates, written from docs/FORMATS.md. Members, pairings and bids count from 0 here.
+"""The judge of certificates, by the rules of docs/FORMATS.md. Members, pairings and bids count from 0 here.
 
 A lens is (grain, tracked, free30, days, windows), a node a tuple of decisions (member, pairing, flies), and an item one
 of ("split", m, p), ("count", p), ("fixed", m), ("noline", m, lens) and ("weights", weights, lenses).

@@ -1,4 +1,4 @@
-"""The law and the bids of a month, written from docs/PROBLEM.md and docs/FORMATS.md. It knows nothing of the crates."""
+"""The law and the bids of a month, by the rules of docs/PROBLEM.md and docs/FORMATS.md. It knows nothing of the crates."""
 import dataclasses
 import datetime
 

@@ -1,4 +1,4 @@
-"""Which texts are certificates, and where the others stop being one, written from docs/FORMATS.md."""
+"""Which texts are certificates, and where the others stop being one, by the rules of docs/FORMATS.md."""
 import re
 
 VERSION, WORD, NUMBER, SHORT, TRAILING, LIMIT = range(1, 7)
