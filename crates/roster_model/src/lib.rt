@@ -26,7 +26,7 @@ pub use kept::holds;
 pub use laws::{
     best_is_greatest, best_is_greatest_by_place, closed_is_hopeless, denials_are_answered,
     greatest_scores_are_unique, greatest_scores_depend_on_seniors,
-    lawful_ledgers_have_few_searches, searches_have_few_entries,
+    lawful_ledgers_have_few_searches, open_nodes_bound_gaps, searches_have_few_entries,
 };
 pub use line::{Line, Roster};
 pub use node::{Decision, Node, NodeFault};
