@@ -1,20 +1,17 @@
-//! What closing proofs and awards mean for all complete rosters.
-ghost use Rattle.std.specs.Prelude.{◌≡◌, ◌+◌, ◌-◌, ◌*◌, ◌^◌, ◌≤◌, ◌==◌, ◌≤ℤ◌, ◌*ℤ◌, pos, ℤ, List as Sequence, ℕ, length, take, count_by};
+//! What closing proofs, awards and ledgers mean for all complete rosters.
+ghost use Rattle.std.specs.Prelude.{List as Sequence, ℕ};
 ghost use Rattle.roster_model.specs.declared.award.Awarded.{Awarded as Parts};
 ghost use Rattle.roster_model.specs.declared.award.Denial.{Denial as Reason};
 ghost use Rattle.roster_model.specs.declared.goal.Goal.{Goal as Aim};
-ghost use Rattle.roster_model.specs.declared.entry.Entry.{Entry as Counted};
 ghost use Rattle.roster_model.specs.declared.node.Decision.{Decision};
 ghost use Rattle.roster_model.specs.declared.proof.Item.{Item as Step};
 ghost use Rattle.roster_model.specs.Closing.{Closes, IsHopeless};
 ghost use Rattle.roster_model.specs.Awards.{IsBest, IsGreatest};
-ghost use Rattle.roster_model.specs.OpenNodes.{IsOpenNode};
-ghost use Rattle.roster_model.specs.Rounds.{HasEvenRounds, squared_misses};
-ghost use Rattle.roster_model.specs.Effort.{LeavesGap, BoundsGaps, squared_weights};
-ghost use Rattle.roster_model.specs.Ledgers.{AreOrderly, pairs_of};
-ghost use Rattle.roster_model.specs.Lawful.{AreGreatest, AgreeBefore, IsLawful, total_bids, bid_count};
 ghost use Rattle.roster_model.specs.Denials.{DenialsAreAnswered, IsAwarded};
-ghost use Rattle.roster_model.specs.Rosters.{IsComplete, scores_of};
+ghost use Rattle.roster_model.specs.OpenNodes.{IsOpenNode};
+ghost use Rattle.roster_model.specs.Effort.{BoundsGaps, MissesBoundGaps};
+ghost use Rattle.roster_model.specs.Ledgers.{SearchesHaveFewEntries};
+ghost use Rattle.roster_model.specs.Lawful.{BestIsGreatestByPlace, GreatestScoresAreUnique, GreatestScoresAreFirst, GreatestScoresDependOnSeniors, LawfulLedgersHaveFewSearches};
 
 use crate::problem::Problem;
 
@@ -30,29 +27,30 @@ pub fn best_is_greatest(problem: &Problem)
 
 /// Where each place has its proof, the first scores are at each place the greatest list of as many scores.
 pub fn best_is_greatest_by_place(problem: &Problem)
-    ensures greatest { (roster : Sequence (Sequence ℕ)) (proofs : Sequence (Sequence Step)) (k : ℕ) → IsBest problem.now roster proofs → k ≤ length problem.now.base.members → AreGreatest problem.now (take k (scores_of problem.now roster)) }
+    ensures greatest { BestIsGreatestByPlace problem.now }
 {}
 
-/// There is but one greatest list of so many first scores.
+/// There is but one greatest list of so many first scores; where a complete roster has the greatest vector of all, it
+/// is that of this roster.
 pub fn greatest_scores_are_unique(problem: &Problem)
-    ensures unique { (xs ys : Sequence ℕ) → length xs ≡ length ys → AreGreatest problem.now xs → AreGreatest problem.now ys → xs ≡ ys }
-    ensures first { (roster : Sequence (Sequence ℕ)) (xs : Sequence ℕ) → IsComplete problem.now roster → IsGreatest problem.now roster → length xs ≤ length problem.now.base.members → AreGreatest problem.now xs → xs ≡ take (length xs) (scores_of problem.now roster) }
+    ensures unique { GreatestScoresAreUnique problem.now }
+    ensures first { GreatestScoresAreFirst problem.now }
 {}
 
 /// The greatest list of the first scores is a matter of the base and of the bids of those members alone.
 pub fn greatest_scores_depend_on_seniors(problem: &Problem, other: &Problem)
-    ensures same { (scores : Sequence ℕ) → AgreeBefore problem.now other.now (length scores) → length scores ≤ length problem.now.base.members → AreGreatest problem.now scores → AreGreatest other.now scores }
+    ensures same { GreatestScoresDependOnSeniors problem.now other.now }
 {}
 
 /// A search has at most one entry less in an orderly ledger than there are sets of pairs of a member and a pairing.
 pub fn searches_have_few_entries(problem: &Problem)
-    ensures few { (rounds : ℕ) (goals : Sequence Aim) (entries : Sequence Counted) (search : ℕ) → AreOrderly problem.now rounds goals entries → count_by (λ e. e.search == search) entries ≤ 2 ^ pairs_of problem.now - 1 }
+    ensures few { SearchesHaveFewEntries problem.now }
 {}
 
 /// A lawful ledger has few searches: one for nothing, as many at each place as its bids weigh and one more, and for
 /// each bid at most two more than there are members.
 pub fn lawful_ledgers_have_few_searches(problem: &Problem)
-    ensures few { (rounds : ℕ) (goals : Sequence Aim) (entries : Sequence Counted) → IsLawful problem.now rounds goals entries → length goals ≤ 1 + length problem.now.base.members + total_bids problem.now + bid_count problem.now * (length problem.now.base.members + 2) }
+    ensures few { LawfulLedgersHaveFewSearches problem.now }
 {}
 
 /// Where the denials of an award fit as well, each denied bid is granted by an equally scored roster that is shown,
@@ -65,5 +63,5 @@ pub fn denials_are_answered(problem: &Problem)
 /// number of rounds, it is at most the squared weights times the squares of the largest misses.
 pub fn open_nodes_bound_gaps(problem: &Problem)
     ensures bounds { (rounds : ℕ) (goal : Aim) (node : Sequence Decision) → IsOpenNode problem.now rounds goal node → BoundsGaps problem.now goal node rounds }
-    ensures by_misses { (rounds gap : ℕ) (goal : Aim) (node : Sequence Decision) (weights : Sequence ℤ) (even : HasEvenRounds problem.now goal node rounds) → LeavesGap problem.now goal node weights gap → pos (gap * rounds * (gap * rounds)) ≤ℤ (squared_weights problem.now weights *ℤ squared_misses problem.now even.rounds) }
+    ensures by_misses { (rounds : ℕ) (goal : Aim) (node : Sequence Decision) → MissesBoundGaps problem.now goal node rounds }
 {}
