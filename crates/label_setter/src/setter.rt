@@ -79,5 +79,8 @@ pub fn set_labels_in<R: Resource, L: Ledger>(
     ensures steps { (most : ℕ) → FewApart R.below R.extend graph.now.start graph.now.arcs most → steps.new ≤ steps.old + most * length graph.now.arcs }
 {
     let answer = trace_labels_in(alloc, graph, room, steps)?;
-    priced_of(alloc, &graph.arcs, answer).map_err(|_| SetterFault::NoMemory)
+    match priced_of(alloc, &graph.arcs, answer) {
+        Ok(priced) => Ok(priced),
+        Err(Memory::NoMemory) => Err(SetterFault::NoMemory),
+    }
 }
