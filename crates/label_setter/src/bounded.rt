@@ -86,7 +86,7 @@ fn bound_of(most: i64, pass: u32) -> i64 {
     }
 }
 
-/// As `set_labels`, by passes over bounds that fall from the most that may be gained until the best chain is above one.
+/// As `trace_labels`, by passes over bounds that fall from the most that may be gained until the best chain is above one.
 pub fn set_labels_falling<R: Resource, B: Rest<R> + Drop, L: Ledger>(
     alloc: Global,
     graph: &Graph<R>,
