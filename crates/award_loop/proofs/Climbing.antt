@@ -9,12 +9,12 @@ use Rattle.roster_model.specs.declared.problem.Problem.{Problem}
 use Rattle.roster_model.specs.declared.goal.Goal.{Goal}
 use Rattle.roster_model.specs.declared.proof.Item.{Item}
 use Rattle.roster_model.specs.Closing.{Closes}
-use Rattle.roster_model.specs.Awards.{IsGreatest, above_at, no_goal, floor_goal}
+use Rattle.roster_model.specs.Awards.{above_at, no_goal, floor_goal}
 use Rattle.roster_model.specs.Lawful.{AreGreatest, IsRunGoal, bids_weight, total_bids}
 use Rattle.roster_model.specs.Rosters.{IsComplete, IsGreater, scores_of}
 use Rattle.roster_model.specs.Splits.{splits_in, all_splits}
 use Rattle.roster_model.proofs.Bounds.{bids_before-more, bids_before-all, bids_before-le}
-use Rattle.roster_model.proofs.Greatest.{length-scores, best-greatest}
+use Rattle.roster_model.proofs.Greatest.{length-scores}
 use Rattle.roster_model.proofs.Seniority.{greatest-more, greatest-first}
 use Rattle.branch_log.specs.Book.{Book}
 use Rattle.completion_search.specs.Added.{AddsSearches, TakesSearches}

@@ -1,5 +1,5 @@
 -- The tests' closer: a month of one member who has nothing to fly and bids for nothing.
-use Rattle.std.proofs.Common.{◌≡◌, ℕ, ◌+◌, ◌-◌, ◌*◌, ◌<◌, ◌≤◌, Bool, true, false, cond, List, [], ◌∷◌, ◌++◌, length, Some, refl, sym, ap, subst, ◌∙◌, arith, map}
+use Rattle.std.proofs.Common.{◌≡◌, ℕ, ◌+◌, ◌-◌, ◌*◌, ◌<◌, ◌≤◌, false, cond, List, [], ◌∷◌, ◌++◌, length, Some, refl, sym, ap, subst, ◌∙◌, arith, map}
 use Rattle.std.specs.Prelude.{count_by, sum_by, slice_get}
 use Rattle.std.specs.List.{range_with_len}
 use Rattle.std.proofs.lemmas.Bool.{false≢true}
@@ -7,19 +7,17 @@ use Rattle.std.proofs.lemmas.List.Sums.{sum_by-cons}
 use Rattle.duty_calendar.specs.declared.event.Event.{Event}
 use Rattle.duty_calendar.specs.declared.interval.Interval.{Interval}
 use Rattle.duty_calendar.specs.Calendar.{month_days}
-use Rattle.duty_calendar.specs.Minutes.{count_between, is_flying_minute, is_period_minute}
+use Rattle.duty_calendar.specs.Minutes.{count_between}
 use Rattle.duty_calendar.specs.Limits.{KeepsPart117}
 use Rattle.roster_model.specs.declared.problem.Problem.{Problem}
 use Rattle.roster_model.specs.declared.goal.Goal.{Goal}
-use Rattle.roster_model.specs.declared.goal.BidRef.{BidRef}
 use Rattle.roster_model.specs.declared.bid.Bid.{Bid}
 use Rattle.roster_model.specs.declared.node.Decision.{Decision}
 use Rattle.roster_model.specs.declared.proof.Item.TheVariants.{Fixed}
 use Rattle.roster_model.specs.Spans.{duty_events, event_span, pairing_span}
 use Rattle.roster_model.specs.Timelines.{history_of, fixed_of, pairings_of, events_of, coming_events, occupied, credit_of}
-use Rattle.roster_model.specs.Decided.{is_decided_as}
 use Rattle.roster_model.specs.Scores.{is_granting, bids_of, score_of}
-use Rattle.roster_model.specs.Legality.{IsLegal, low_of, high_of}
+use Rattle.roster_model.specs.Legality.{IsLegal, low_of}
 use Rattle.roster_model.specs.Rosters.{IsComplete, line_at}
 use Rattle.roster_model.specs.Goals.{IsGoal, IsNode, RosterMeets, RosterObeys}
 use Rattle.roster_model.specs.Closing.{IsAccepted, decided_line}

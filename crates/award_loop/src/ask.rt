@@ -62,7 +62,7 @@ pub(crate) fn ask<C: Closer>(
     search(alloc, problem, closer, &goal, ledger)
 }
 
-/// A floor between a score that is reached and a floor that is not.
+/// A floor between a score that is reached and a floor that is not: the one in the middle, so that few are tried.
 pub(crate) fn next_floor(score: u32, refuted: u32) -> u32
     requires apart { score + 1 < refuted }
     ensures above { score < result }

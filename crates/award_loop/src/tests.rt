@@ -18,7 +18,7 @@ use std::alloc::Global;
 struct Idle;
 
 impl Closer for Idle {
-    ghost use Rattle.std.specs.Prelude.{◌≡◌, ◌↔◌, ℕ, [], length, IfOk};
+    ghost use Rattle.std.specs.Prelude.{◌≡◌, ℕ, [], length};
     ghost use Rattle.roster_model.specs.Scores.{bids_of};
     ghost use Rattle.roster_model.specs.Legality.{low_of};
     ghost use Rattle.roster_model.specs.Timelines.{history_of, fixed_of};

@@ -1,12 +1,12 @@
 //! The walk over the nodes of a search, depth first.
-ghost use Rattle.std.specs.Prelude.{◌≡◌, ◌≢◌, ◌↔◌, ℕ, true, false, Some, slice_get, ◌≤◌, ◌<◌, ◌+◌, ◌*◌, ◌^◌, [], ◌∷◌, ◌++◌, length, OnOk, OnErr, IfOk};
+ghost use Rattle.std.specs.Prelude.{◌≡◌, ◌≢◌, ◌↔◌, ◌+◌, ◌<◌, ◌≤◌, true, Some, [], ◌∷◌, ◌++◌, length, slice_get, IfOk, OnOk, OnErr};
 ghost use Rattle.roster_model.specs.declared.problem.Problem.{Problem};
 ghost use Rattle.roster_model.specs.Decided.{decided};
 ghost use Rattle.roster_model.specs.Goals.{IsGoal};
 ghost use Rattle.roster_model.specs.OpenNodes.{IsOpenNode};
+ghost use Rattle.roster_model.specs.Ledgers.{Each};
 ghost use Rattle.branch_log.specs.Book.{IsOrderly};
 ghost use Rattle.completion_search.specs.Found.{IsFinding, AddsSearch, AddsFewEntries, FitsSearch, HasFewSplits, IsNotSpent};
-ghost use Rattle.roster_model.specs.Ledgers.{Each};
 ghost use Rattle.completion_search.specs.Path.{IsAt, IsAboveFlown, HasGrown};
 
 use branch_log::{Closer, Ledger, Verdict};
