@@ -3,3 +3,9 @@ pub mod Graphs
 pub mod Rooms
 pub mod Arrivals
 pub mod Labels
+pub mod Buckets
+pub mod Arenas
+pub mod Sought
+pub mod Rests
+pub mod Meters
+pub mod Traces

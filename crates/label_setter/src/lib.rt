@@ -6,14 +6,23 @@
 #![tactic(auto)]
 
 mod arrivals;
+mod bounded;
+mod buckets;
 mod graph;
 mod labels;
+mod meters;
 mod setter;
+mod sieve;
 mod table;
+mod traces;
 mod winner;
 
+pub use bounded::{set_labels_falling, set_labels_over};
 pub use graph::{Arc, Graph};
+pub use meters::{Meter, MeterRest, meter_rest};
 pub use setter::{Priced, SetterFault, set_labels, set_labels_in};
+pub use sieve::{Above, Rest};
+pub use traces::{Traced, trace_labels, trace_labels_in};
 
 #[cfg(test)]
 mod tests;

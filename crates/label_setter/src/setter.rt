@@ -1,13 +1,12 @@
 //! The greatest gain of a feasible chain, with or without a bound on labels.
 
-ghost use Rattle.std.specs.Prelude.{◌≡◌, ◌+◌, ◌≤◌, ◌*◌, ◌≤ℤ◌, ℕ, ℤ, IfNone, IfOk, IfSome, IsErrOf, List, length};
+ghost use Rattle.std.specs.Prelude.{◌≡◌, ◌+◌, ◌≤◌, ◌*◌, ◌≤ℤ◌, ℕ, ℤ, IfNone, IfOk, IfSome, IsErrOf, List, length, option_map};
 ghost use Rattle.label_setter.specs.Chains.{Crowd, FewApart, IsAttained, IsFeasible};
-ghost use Rattle.label_setter.specs.Labels.{RoomOver};
+ghost use Rattle.label_setter.specs.Traces.{priced_by};
 
-use crate::graph::Graph;
-use crate::labels::Stop;
-use crate::table::labels_of;
-use crate::winner::{best_done, places_to};
+use crate::graph::{Arc, Graph};
+use crate::traces::{Traced, trace_labels, trace_labels_in};
+use crate::winner::places_along;
 use duty_calendar::{List, Memory};
 use label_lattice::{Resource, Steps};
 use std::alloc::Global;
@@ -30,27 +29,20 @@ pub enum SetterFault {
     Room(u32),
 }
 
-/// The best feasible chain. No `room` is room without end.
-fn best_chain<R: Resource, L: Ledger>(
+/// The places of a chain in place of its arcs.
+fn priced_of<S: Copy>(
     alloc: Global,
-    graph: &Graph<R>,
-    room: Option<u32>,
-    steps: &mut Steps<L>,
-) -> Result<Option<Priced>, Stop>
-    ensures attained { IfOk result (λ answer. IfSome answer (λ priced. IsAttained R.extend R.done graph.now priced.chain priced.gain)) }
-    ensures greatest { IfOk result (λ answer. IfSome answer (λ priced. (chain : List ℕ) (gain : ℤ) → IsFeasible R.extend R.done graph.now chain gain → gain ≤ℤ priced.gain)) }
-    ensures none { IfOk result (λ answer. IfNone answer ((chain : List ℕ) (gain : ℤ) → IsFeasible R.extend R.done graph.now chain gain → ⊥)) }
-    ensures full { IsErrOf result Stop.Full → RoomOver R.below R.extend graph.now.start graph.now.arcs room }
-    ensures steps { (most : ℕ) → FewApart R.below R.extend graph.now.start graph.now.arcs most → steps.new ≤ steps.old + most * length graph.now.arcs }
+    arcs: &[Arc<S>],
+    answer: Option<Traced>,
+) -> Result<Option<Priced>, Memory>
+    ensures priced { IfOk result (λ priced. priced ≡ option_map (priced_by arcs.now) answer) }
 {
-    let kept = labels_of(alloc, graph.places, graph.start, &graph.arcs, room, steps)?;
-    let sink = graph.places - 1;
-    let Some(best) = best_done(&kept[sink as usize], &graph.end) else {
+    let Some(traced) = answer else {
         return Ok(None);
     };
-    let chain = places_to(alloc, &graph.arcs, &kept, sink, best)?;
+    let chain = places_along(alloc, arcs, traced.arcs.as_slice())?;
     Ok(Some(Priced {
-        gain: best.gain,
+        gain: traced.gain,
         chain,
     }))
 }
@@ -67,11 +59,8 @@ pub fn set_labels<R: Resource, L: Ledger>(
     ensures none { IfOk result (λ answer. IfNone answer ((chain : List ℕ) (gain : ℤ) → IsFeasible R.extend R.done graph.now chain gain → ⊥)) }
     ensures steps { (most : ℕ) → FewApart R.below R.extend graph.now.start graph.now.arcs most → steps.new ≤ steps.old + most * length graph.now.arcs }
 {
-    match best_chain(alloc, graph, None, steps) {
-        Ok(answer) => Ok(answer),
-        Err(Stop::NoMemory) => Err(Memory::NoMemory),
-        Err(Stop::Full) => unreachable!(),
-    }
+    let answer = trace_labels(alloc, graph, steps)?;
+    priced_of(alloc, &graph.arcs, answer)
 }
 
 /// As `set_labels`, with room for so many labels at all places together, that of the source among them. It may answer
@@ -89,9 +78,9 @@ pub fn set_labels_in<R: Resource, L: Ledger>(
     ensures crowd { (n : ℕ) → IsErrOf result (SetterFault.Room n) → Crowd R.below R.extend graph.now.start graph.now.arcs (n + 1) }
     ensures steps { (most : ℕ) → FewApart R.below R.extend graph.now.start graph.now.arcs most → steps.new ≤ steps.old + most * length graph.now.arcs }
 {
-    match best_chain(alloc, graph, Some(room), steps) {
-        Ok(answer) => Ok(answer),
-        Err(Stop::NoMemory) => Err(SetterFault::NoMemory),
-        Err(Stop::Full) => Err(SetterFault::Room(room)),
+    let answer = trace_labels_in(alloc, graph, room, steps)?;
+    match priced_of(alloc, &graph.arcs, answer) {
+        Ok(priced) => Ok(priced),
+        Err(Memory::NoMemory) => Err(SetterFault::NoMemory),
     }
 }

@@ -1,4 +1,7 @@
-ghost use Rattle.std.specs.Prelude.{◌≡◌, ◌<◌};
+ghost use Rattle.std.specs.Prelude.{◌≡◌, ◌<◌, IfOk};
+ghost use Rattle.label_lattice.specs.Least.{least_extend};
+ghost use Rattle.label_setter.specs.Meters.{IsMeter};
+ghost use Rattle.label_setter.specs.Rests.{IsRest};
 
 use super::*;
 use duty_calendar::Memory;
@@ -8,7 +11,9 @@ use std::marker::Brand;
 use std::sync::ledger::{Blank, Ledger};
 
 /// A way by two arcs, beside one arc of less gain and use.
-fn two_ways(alloc: Global, cap: u32) -> Result<Graph<Least>, Memory> {
+fn two_ways(alloc: Global, cap: u32) -> Result<Graph<Least>, Memory>
+    ensures metered { IfOk result (λ g. IsMeter least_extend g.arcs (λ least. least.value) (λ step. step.add) cap) }
+{
     let mut graph = Graph::new(alloc, 3, Least { value: 0 }, ())?;
     graph.arc(0, 1, 3, LeastStep { add: 2, cap })?;
     graph.arc(1, 2, 4, LeastStep { add: 2, cap })?;
@@ -149,4 +154,143 @@ fn arcs_side_by_side_are_two(rt: HostRuntime) {
         .arc(0, 1, -3, LeastStep { add: 1, cap: 1 })
         .expect(&rt, "memory");
     assert!(rt; is(&best(alloc, &graph).expect(&rt, "memory"), -3, &[0, 1]));
+}
+
+/// What the label of `Least` has used.
+#[derive(Clone, Copy)]
+struct Used;
+
+impl Meter<Least> for Used {
+    ghost shows = { λ _ least. least.value };
+
+    ghost adds = { λ _ step. step.add };
+
+    fn shows(&self, resource: &Least) -> u32 {
+        resource.value
+    }
+
+    fn adds(&self, step: &LeastStep) -> u32 {
+        step.add
+    }
+}
+
+/// Traces labels of any resource in bounded room.
+fn trace_in_from<R: Resource, L: Ledger>(
+    alloc: Global,
+    graph: &Graph<R>,
+    room: u32,
+    blank: Blank,
+) -> Result<Option<Traced>, SetterFault>
+    requires name { blank.name ≡ L.name }
+    requires parts { blank.parts ≡ L.parts }
+    requires some { 0 < blank.parts }
+{
+    let mut steps: Steps<L> = Steps::new(blank);
+    trace_labels_in(alloc, graph, room, &mut steps)
+}
+
+fn trace_in<R: Resource>(
+    alloc: Global,
+    graph: &Graph<R>,
+    room: u32,
+) -> Result<Option<Traced>, SetterFault> {
+    trace_in_from::<R, Brand>(alloc, graph, room, Blank::new(1))
+}
+
+/// The same above a bound.
+fn over_from<R: Resource, B: Rest<R>, L: Ledger>(
+    alloc: Global,
+    graph: &Graph<R>,
+    above: &Above<B>,
+    room: u32,
+    blank: Blank,
+) -> Result<Option<Traced>, SetterFault>
+    requires name { blank.name ≡ L.name }
+    requires parts { blank.parts ≡ L.parts }
+    requires some { 0 < blank.parts }
+    requires rest { IsRest R.extend R.done graph.now (B.rest above.now.rest) }
+{
+    let mut steps: Steps<L> = Steps::new(blank);
+    set_labels_over(alloc, graph, above, room, &mut steps)
+}
+
+/// The same by falling bounds.
+fn falling_from<R: Resource, B: Rest<R> + Drop, L: Ledger>(
+    alloc: Global,
+    graph: &Graph<R>,
+    rest: B,
+    blank: Blank,
+) -> Result<Option<Traced>, Memory>
+    requires name { blank.name ≡ L.name }
+    requires parts { blank.parts ≡ L.parts }
+    requires some { 0 < blank.parts }
+    requires rest { IsRest R.extend R.done graph.now (B.rest rest) }
+{
+    let mut steps: Steps<L> = Steps::new(blank);
+    set_labels_falling(alloc, graph, rest, &mut steps)
+}
+
+/// What may be gained from the source on, where each step is held to the cap.
+fn most_from_the_source(alloc: Global, cap: u32) -> Result<i64, Memory> {
+    let graph = two_ways(alloc, cap)?;
+    let rest = meter_rest(alloc, &graph, Used, cap)?;
+    Ok(rest.rest(0, &graph.start()))
+}
+
+/// The best chain above a bound, of the graph of two ways.
+fn best_over(alloc: Global, cap: u32, over: i64, room: u32) -> Result<Option<Traced>, SetterFault> {
+    let Ok(graph) = two_ways(alloc, cap) else {
+        return Err(SetterFault::NoMemory);
+    };
+    let Ok(rest) = meter_rest(alloc, &graph, Used, cap) else {
+        return Err(SetterFault::NoMemory);
+    };
+    let above = Above { rest, over };
+    over_from::<Least, MeterRest<Used>, Brand>(alloc, &graph, &above, room, Blank::new(1))
+}
+
+/// The best chain of the graph of two ways, by bounds that fall.
+fn best_falling(alloc: Global, cap: u32) -> Result<Option<Traced>, Memory> {
+    let graph = two_ways(alloc, cap)?;
+    let rest = meter_rest(alloc, &graph, Used, cap)?;
+    falling_from::<Least, MeterRest<Used>, Brand>(alloc, &graph, rest, Blank::new(1))
+}
+
+fn is_trace(answer: &Option<Traced>, gain: i64, arcs: &[u32]) -> bool {
+    match answer {
+        Some(traced) => traced.gain == gain && traced.arcs.as_slice() == arcs,
+        None => false,
+    }
+}
+
+#[test]
+fn traces_arcs(rt: HostRuntime) {
+    let alloc = rt.alloc();
+    let graph = two_ways(alloc, 4).expect(&rt, "memory");
+    assert!(rt; matches!(trace_in(alloc, &graph, 1), Err(SetterFault::Room(1))));
+    assert!(rt; is_trace(&trace_in(alloc, &graph, 4).expect(&rt, "room"), 7, &[0, 1]));
+}
+
+#[test]
+fn meters_what_may_still_be_gained(rt: HostRuntime) {
+    let alloc = rt.alloc();
+    assert_eq!(rt; most_from_the_source(alloc, 3).expect(&rt, "memory"), 5);
+    assert_eq!(rt; most_from_the_source(alloc, 4).expect(&rt, "memory"), 7);
+}
+
+#[test]
+fn finds_what_comes_above(rt: HostRuntime) {
+    let alloc = rt.alloc();
+    assert!(rt; is_trace(&best_over(alloc, 4, 6, 4).expect(&rt, "room"), 7, &[0, 1]));
+    assert!(rt; is_trace(&best_over(alloc, 3, -9, 4).expect(&rt, "room"), 5, &[2]));
+    assert!(rt; best_over(alloc, 4, 7, 1).expect(&rt, "room").is_none());
+    assert!(rt; matches!(best_over(alloc, 4, 6, 1), Err(SetterFault::Room(1))));
+}
+
+#[test]
+fn falls_to_the_best(rt: HostRuntime) {
+    let alloc = rt.alloc();
+    assert!(rt; is_trace(&best_falling(alloc, 4).expect(&rt, "memory"), 7, &[0, 1]));
+    assert!(rt; is_trace(&best_falling(alloc, 3).expect(&rt, "memory"), 5, &[2]));
+    assert!(rt; best_falling(alloc, 0).expect(&rt, "memory").is_none());
 }

@@ -1,12 +1,14 @@
 //! The best label of the sink, and the way back from it.
 
-ghost use Rattle.std.specs.Prelude.{◌≡◌, ◌+◌, ◌<◌, ◌≤◌, ◌&&◌, ℕ, All, Contains, IfOk, List, Some, if◌then◌else◌, length, slice_get};
-ghost use Rattle.label_setter.specs.Chains.{source};
+ghost use Rattle.std.specs.Prelude.{◌≡◌, ◌+◌, ◌<◌, ◌≤◌, ◌&&◌, ℕ, ℤ, All, Bool, Contains, IfOk, List, Some, if◌then◌else◌, length, slice_get};
+ghost use Rattle.label_setter.specs.Chains.{end_of, places_of, source};
 ghost use Rattle.label_setter.specs.Graphs.{FitsPlaces};
-ghost use Rattle.label_setter.specs.Labels.{BestDone, GraphLabels, HasWay, beats, rows_of};
+ghost use Rattle.label_setter.specs.Labels.{BestDone, GraphLabels, HasWay, beats};
+ghost use Rattle.label_setter.specs.Arenas.{IsRow, rows_in};
 
 use crate::graph::Arc;
 use crate::labels::Label;
+use crate::table::{Row, row_of};
 use duty_calendar::{List, Memory};
 use label_lattice::Resource;
 use std::alloc::Global;
@@ -43,43 +45,57 @@ pub fn best_done<R: Resource>(labels: &[Label<R>], end: &R::End) -> Option<Label
     best
 }
 
-/// The same numbers as a list.
-fn list_of(alloc: Global, numbers: &[u32]) -> Result<List<u32>, Memory>
-    ensures same { IfOk result (λ list. list ≡ numbers.now) }
+/// Where the arc of this number leads.
+fn end_of<S: Copy>(arcs: &[Arc<S>], number: u32) -> u32
+    ensures end { result ≡ end_of arcs.now number }
 {
-    let mut list = List::new(alloc);
-    for &number in numbers {
-        if list.push(number).is_err() {
-            return Err(Memory::NoMemory);
-        }
+    match arcs.get(number as usize) {
+        Some(arc) => arc.to,
+        None => 0,
     }
-    Ok(list)
 }
 
-/// The places by which a label came to its own, from the source on.
-pub fn places_to<R: Resource>(
+/// The places of a chain of these arcs, from the source on.
+pub fn places_along<S: Copy>(
+    alloc: Global,
+    arcs: &[Arc<S>],
+    numbers: &[u32],
+) -> Result<List<u32>, Memory>
+    ensures places { IfOk result (λ places. places ≡ places_of arcs.now numbers.now) }
+{
+    let mut places = Vec::new(alloc);
+    places.push(0)?;
+    for &number in numbers {
+        places.push(end_of(arcs, number))?;
+    }
+    Ok(List::from_vec(places))
+}
+
+/// The arcs by which a label came to its place, from the source on.
+pub fn arcs_to<R: Resource>(
     alloc: Global,
     arcs: &[Arc<R::Step>],
-    kept: &[Vec<Label<R>>],
+    labels: &[Label<R>],
+    rows: &[Row],
     place: u32,
     label: Label<R>,
 ) -> Result<List<u32>, Memory>
     requires arcs { All (FitsPlaces 2000) arcs.now }
-    requires labels { (start : R) × GraphLabels R.below R.extend start arcs.now (rows_of kept.now) }
-    requires kept { (row : List (Label R)) × (slice_get (rows_of kept.now) place ≡ Some row) × Contains row label }
-    ensures way { IfOk result (λ places. (start : R) → GraphLabels R.below R.extend start arcs.now (rows_of kept.now) → HasWay R.extend arcs.now (source start) (record { place = place; gain = label.gain; resource = label.resource }) places) }
+    requires rows { All (IsRow (length labels.now)) rows.now }
+    requires labels { (passes : ℕ → ℤ → R → Bool) × (start : R) × GraphLabels R.below R.extend passes start arcs.now (rows_in labels.now rows.now) }
+    requires kept { (row : List (Label R)) × (slice_get (rows_in labels.now rows.now) place ≡ Some row) × Contains row label }
+    ensures way { IfOk result (λ numbers. (passes : ℕ → ℤ → R → Bool) (start : R) → GraphLabels R.below R.extend passes start arcs.now (rows_in labels.now rows.now) → HasWay R.extend arcs.now (source start) (record { place = place; gain = label.gain; resource = label.resource }) numbers) }
 {
-    let mut places = Vec::new(alloc);
-    places.push(place)?;
+    let mut numbers = Vec::new(alloc);
     let mut place = place;
     let mut label = label;
     while let Some(via) = label.via {
         let arc = &arcs[via.arc as usize];
-        let row = &kept[arc.from as usize];
+        let row = row_of(labels, rows[arc.from as usize]);
         place = arc.from;
         label = row[via.label];
-        places.push(place)?;
+        numbers.push(via.arc)?;
     }
-    places.reverse();
-    list_of(alloc, &places)
+    numbers.reverse();
+    Ok(List::from_vec(numbers))
 }
