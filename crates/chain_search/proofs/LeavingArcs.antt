@@ -5,8 +5,8 @@ use Rattle.std.specs.Prelude.{Contains, slice_get, All}
 use Rattle.std.proofs.lemmas.Option.{slice_get_read, slice_get_within}
 use Rattle.std.proofs.lemmas.List.{map-set}
 use Rattle.std.proofs.lemmas.List.Elements.{All-nil, All-push, All-map, All-contains, Contains-push, Contains-append_left}
-use Rattle.chain_search.proofs.Reads.{below_or_at, contains_read, same_or_not, same_some, set_read_same, set_read_other}
-use Rattle.chain_search.proofs.Reads.{list_there}
+use Rattle.chain_search.proofs.ListReads.{below_or_at, contains_read, same_or_not, same_some, set_read_same, set_read_other}
+use Rattle.chain_search.proofs.ListReads.{list_there}
 use Rattle.label_setter.specs.declared.graph.Arc.{Arc}
 use Rattle.label_setter.specs.Graphs.{FitsPlaces}
 use Rattle.chain_search.specs.Leavings.{LeavesFrom, Leaving}

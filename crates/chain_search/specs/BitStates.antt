@@ -1,12 +1,17 @@
 -- Chosen bits of a set as a state, and what they weigh.
-use Rattle.std.specs.Prelude.{◌≡◌, ◌+◌, ◌-◌, ◌*◌, ◌/◌, ◌%◌, ◌^◌, ◌==◌, ◌&&◌, ℕ, Bool, true, List, [], ◌∷◌, Option, Some, bit_and, bit_or, length, nat_le, nat_lt, slice_index, sum, if◌then◌else◌}
+use Rattle.std.specs.Prelude.{◌≡◌, ◌+◌, ◌-◌, ◌*◌, ◌/◌, ◌%◌, ◌^◌, ◌==◌, ◌&&◌, ℕ, Bool, true, List, [], ◌∷◌, Option, Some, bit_and, bit_or, filter, length, map, nat_le, nat_lt, slice_index, sum, take, if◌then◌else◌}
+use Rattle.std.specs.List.{range_with_len}
 use Rattle.std.specs.Int.{bit_at}
 use Rattle.label_lattice.specs.declared.masks.MaskStep.{MaskStep}
 use Rattle.label_lattice.specs.declared.masks.MaskEnd.{MaskEnd}
 use Rattle.label_lattice.specs.declared.masks.Mask.{Mask}
-use Rattle.chain_search.specs.declared.bits.Chosen.{Chosen}
-use Rattle.chain_search.specs.declared.bits.Bits.{Bits}
+use Rattle.chain_search.specs.declared.chosen.Chosen.{Chosen}
+use Rattle.chain_search.specs.declared.chosen.Bits.{Bits}
 use Rattle.chain_search.specs.declared.bits.BitsMove.{BitsMove}
+
+-- the lowest fourteen bits of a set, with what they weigh
+unfoldable pub chosen_of : ℕ → List ℕ → List Chosen
+chosen_of choice weights = take 14 (map (λ place. record { place = place; weight = slice_index weights place }) (filter (λ place. bit_at choice place == 1) (range_with_len 0 64)))
 
 -- the chosen bits, the first as the lowest
 abbrev pub state_of : List Chosen → ℕ → ℕ

@@ -5,7 +5,7 @@ ghost use Rattle.std.specs.List.{list_all};
 ghost use Rattle.chain_search.specs.Views.{CoarseLaws, follows};
 
 use label_lattice::Resource;
-use label_setter::Graph;
+use label_setter::{Arc, Graph};
 
 /// A view of a resource that tells finitely many states apart. Along a step that the view follows the state goes on as
 /// the move of the step says, whatever else the resource holds.
@@ -60,9 +60,16 @@ pub trait Coarse<R: Resource> {
     ghost laws: { (view : Self) → CoarseLaws R.extend R.done (count view) (shows view) (λ step. moves (move_of view step)) (ends view) (fits_step view) (fits_end view) };
 }
 
+/// The view follows the steps of these arcs.
+fn fits_all<R: Resource, C: Coarse<R>>(arcs: &[Arc<R::Step>], coarse: &C) -> bool
+    ensures fits { result ≡ list_all (λ arc. C.fits_step coarse.now arc.step) arcs.now }
+{
+    arcs.iter().all(|arc| coarse.fits_step(&arc.step))
+}
+
 /// The view follows the steps of all arcs of the graph, and knows its end.
 pub fn follows<R: Resource, C: Coarse<R>>(graph: &Graph<R>, coarse: &C) -> bool
     ensures follows { result ≡ follows (C.fits_step coarse.now) (C.fits_end coarse.now) graph.now }
 {
-    coarse.fits_end(graph.end()) && graph.arcs().iter().all(|arc| coarse.fits_step(&arc.step))
+    coarse.fits_end(graph.end()) && fits_all(graph.arcs(), coarse)
 }

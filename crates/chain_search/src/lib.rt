@@ -7,6 +7,7 @@
 
 mod bits;
 mod blind;
+mod chosen;
 mod coarse;
 mod dues;
 mod least;
@@ -18,8 +19,9 @@ mod table;
 mod turns;
 mod ways;
 
-pub use bits::{Bits, BitsMove};
+pub use bits::BitsMove;
 pub use blind::Blind;
+pub use chosen::{Bits, Chosen};
 pub use coarse::{Coarse, follows};
 pub use dues::Due;
 pub use least::{LeastRest, least_rest};

@@ -1,0 +1,6 @@
+pub mod ListReads
+pub mod LeavingArcs
+pub mod RestLemmas
+pub mod Walking
+pub mod Hunting
+pub mod BitLoops
