@@ -5,6 +5,7 @@ use Rattle.std.specs.Int.Signed.{◌<ℤ◌}
 use Rattle.std.specs.List.{Any, list_any}
 use Rattle.std.proofs.lemmas.Bool.{and_parts}
 use Rattle.std.proofs.lemmas.Int.{ints}
+use Rattle.std.proofs.lemmas.Option.{slice_get_read, slice_get_within}
 use Rattle.std.proofs.lemmas.List.{append-nil, get_or_append_left, get_or-append-add, length-take-le, take-append-le, take-take, take_all}
 use Rattle.std.proofs.Math.Seq.{get_or-append_seam}
 use Rattle.std.proofs.lemmas.List.Folds.{Any-from_list_any}
@@ -60,6 +61,40 @@ less_test a b h = grind (arith, ints)
 not_less : (a b : ℤ) → int_lt a b ≡ false → b ≤ℤ a
 not_less a b h = grind (arith, ints)
 
+pub from_zero : (result rest over : ℤ) → result ≡ rest → result ≤ℤ over → (pos 0 +ℤ rest) ≤ℤ over
+from_zero result rest over is low = omega (arith, ints)
+
+pub none_left : {X : Type 0} (xs ys : List X) (count : ℕ) → count ≡ 0 → ys ≡ take (count - 1) xs → xs ≡ ys ++ [] → xs ≡ []
+none_left xs ys count none rest all = all ∙ (append-nil ys ∙ (rest ∙ ap (λ n. take (n - 1) xs) none))
+
+-- how many labels an option holds
+abbrev pub one_if : {X : Type 0} → Option X → ℕ
+one_if None = 0
+one_if (Some x) = 1
+
+pub put_length : {R : Type 0} (old new : List (Open R)) (best : Option (Open R)) (next ahead : Open R) → Puts old best next new ahead → length new ≡ length old + one_if best
+put_length old new None next ahead puts = ap length puts.0 ∙ omega arith
+put_length old new (Some last) next ahead puts = elim puts [
+  | inl other ↦ ap length other.0 ∙ one_more old last
+  | inr other ↦ ap length other.0 ∙ one_more old next
+]
+
+-- an arc that leaves the place
+pub record ArcRead {S : Type 0} (arcs : List (Arc S)) (places place number : ℕ) (arc : Arc S) : Type 0 where
+  pub is : slice_get arcs number ≡ Some arc
+  pub from : arc.from ≡ place
+  pub fits : FitsPlaces places arc
+
+pub listed_within : {S : Type 0} (arcs : List (Arc S)) (place : ℕ) (numbers : List ℕ) (k : ℕ) → Leaving arcs place numbers → k < length numbers → get_or numbers k 0 < length arcs
+listed_within arcs place numbers k leaving less = (let leaves = leaving.right k 0 less in slice_get_within arcs (get_or numbers k 0) leaves.arc leaves.is)
+
+pub listed_read : {S : Type 0} (arcs : List (Arc S)) (places place : ℕ) (numbers : List ℕ) (k : ℕ) (arc : Arc S) → IsGraph places arcs → Leaving arcs place numbers → k < length numbers → arc ≡ get_or arcs (get_or numbers k 0) arc → ArcRead arcs places place (get_or numbers k 0) arc
+listed_read arcs places place numbers k arc fit leaving less read =
+    let leaves = leaving.right k 0 less in
+    let is : slice_get arcs (get_or numbers k 0) ≡ Some arc = slice_get_read arcs (length arcs) (get_or numbers k 0) arc refl (listed_within arcs place numbers k leaving less) read in
+    let same : leaves.arc ≡ arc = same_some (slice_get arcs (get_or numbers k 0)) leaves.arc arc leaves.is is in
+    record { is = is; from = ap (λ (a : Arc _). a.from) (sym same) ∙ leaves.from; fits = fits_at places arcs (get_or numbers k 0) arc fit.arcs_fit is }
+
 module _ {R S E : Type 0} (extend : R → S → Option R) (done : R → E → Bool) (graph : GraphOf R S E) (over : ℤ) where
   abbrev None_at : Open R → Type 0
   None_at next = NoneAbove extend done graph over (reached_open next)
@@ -91,67 +126,67 @@ module _ {R S E : Type 0} (extend : R → S → Option R) (done : R → E → Bo
   ]
 
   -- the arc is not worth going by
-  pub spreading_skip : (label : Label R) (old waiting : List (Open R)) (best : Option (Open R)) (numbers : List ℕ) (count number : ℕ) (arc : Arc S) (gain : ℤ) (rest : ℕ → R → ℤ) → IsRest extend done graph rest
-      → slice_get numbers count ≡ Some number → slice_get graph.arcs number ≡ Some arc → gain ≡ label.gain +ℤ arc.gain → Enters extend rest over label number arc gain None
+  pub spreading_skip : (label : Label R) (old waiting : List (Open R)) (best : Option (Open R)) (numbers : List ℕ) (count number : ℕ) (arc : Arc S) (rest : ℕ → R → ℤ) → IsRest extend done graph rest
+      → slice_get numbers count ≡ Some number → slice_get graph.arcs number ≡ Some arc → Enters extend rest over label number arc None
       → Spreading label old waiting best numbers count → Spreading label old waiting best numbers (count + 1)
-  spreading_skip label old waiting best numbers count number arc gain rest rests at is sum enters so_far = record {
+  spreading_skip label old waiting best numbers count number arc rest rests at is enters so_far = record {
     more = so_far.more;
     added = so_far.added;
     come = so_far.come;
     best_comes = so_far.best_comes;
     none = λ all none. by_more label numbers count number at (so_far.none all none) (λ next takes.
         let extends : extend label.resource arc.step ≡ Some next.resource = subst (λ (a : Arc S). extend label.resource a.step ≡ Some next.resource) (same_some (slice_get graph.arcs number) takes.arc arc takes.is is) takes.extends in
-        let same = same_next extend graph.arcs (reached_label label) next number arc gain next.resource is sum extends takes in
-        subst (NoneAbove extend done graph over) (sym same) (none_in_rest extend done graph over rest rests (record { place = arc.to; gain = gain; resource = next.resource }) (enters next.resource extends)));
+        let same = same_next extend graph.arcs (reached_label label) next number arc (label.gain +ℤ arc.gain) next.resource is refl extends takes in
+        subst (NoneAbove extend done graph over) (sym same) (none_in_rest extend done graph over rest rests (record { place = arc.to; gain = label.gain +ℤ arc.gain; resource = next.resource }) (enters next.resource extends)));
   }
 
-  pub comes : (label : Label R) (number : ℕ) (arc : Arc S) (gain : ℤ) (next : Open R) → IsGraph graph.places graph.arcs → slice_get graph.arcs number ≡ Some arc → arc.from ≡ label.place → gain ≡ label.gain +ℤ arc.gain → IsWithin arc.to gain → IsNext extend label number arc gain next → ComesFrom extend graph label next
-  comes label number arc gain next fit is from sum within enters =
+  pub comes : (label : Label R) (number : ℕ) (arc : Arc S) (next : Open R) → IsGraph graph.places graph.arcs → slice_get graph.arcs number ≡ Some arc → arc.from ≡ label.place → IsNext extend label number arc next → ComesFrom extend graph label next
+  comes label number arc next fit is from enters =
       let fits = fits_at graph.places graph.arcs number arc fit.arcs_fit is in
       let forward = fits.forward in
       let inside = fits.within in
       let place = enters.place in
       record {
-        takes = record { arc = arc; is = subst (λ n. slice_get graph.arcs n ≡ Some arc) (sym enters.arc_is) is; from = from; to = sym enters.place; gain = enters.sum ∙ sum; extends = enters.extends };
+        takes = record { arc = arc; is = subst (λ n. slice_get graph.arcs n ≡ Some arc) (sym enters.arc_is) is; from = from; to = sym enters.place; gain = enters.sum; extends = enters.extends };
         before = enters.before;
         forward = omega (arith, forward, place, from);
         inside = omega (arith, inside, place);
-        within = subst (λ p. IsWithin p next.gain) (sym enters.place) (subst (λ g. IsWithin arc.to g) (sym enters.sum) within);
+        within = subst (λ p. IsWithin p next.gain) (sym enters.place) enters.within;
       }
 
-  none_by_next : (label : Label R) (number : ℕ) (arc : Arc S) (gain : ℤ) (next : Open R) → slice_get graph.arcs number ≡ Some arc → gain ≡ label.gain +ℤ arc.gain → IsNext extend label number arc gain next → None_at next
+  none_by_next : (label : Label R) (number : ℕ) (arc : Arc S) (next : Open R) → slice_get graph.arcs number ≡ Some arc → IsNext extend label number arc next → None_at next
       → (to : Reached R) → Takes extend graph.arcs (reached_label label) number to → NoneAbove extend done graph over to
-  none_by_next label number arc gain next is sum enters none to takes =
-      let same : to ≡ record { place = arc.to; gain = gain; resource = next.resource } = same_next extend graph.arcs (reached_label label) to number arc gain next.resource is sum enters.extends takes in
+  none_by_next label number arc next is enters none to takes =
+      let same : to ≡ record { place = arc.to; gain = label.gain +ℤ arc.gain; resource = next.resource } = same_next extend graph.arcs (reached_label label) to number arc (label.gain +ℤ arc.gain) next.resource is refl enters.extends takes in
       subst (NoneAbove extend done graph over) (sym same)
-      (subst (λ p. NoneAbove extend done graph over (record { place = p; gain = gain; resource = next.resource })) enters.place
+      (subst (λ p. NoneAbove extend done graph over (record { place = p; gain = label.gain +ℤ arc.gain; resource = next.resource })) enters.place
       (subst (λ g. NoneAbove extend done graph over (record { place = next.place; gain = g; resource = next.resource })) enters.sum none))
 
   -- the arc leads to a label that waits, or that is the best so far
-  pub spreading_put : (label : Label R) (old waiting new : List (Open R)) (best : Option (Open R)) (next ahead : Open R) (numbers : List ℕ) (count number : ℕ) (arc : Arc S) (gain : ℤ)
-      → slice_get numbers count ≡ Some number → slice_get graph.arcs number ≡ Some arc → gain ≡ label.gain +ℤ arc.gain → IsNext extend label number arc gain next → ComesFrom extend graph label next → Puts waiting best next new ahead
+  pub spreading_put : (label : Label R) (old waiting new : List (Open R)) (best : Option (Open R)) (next ahead : Open R) (numbers : List ℕ) (count number : ℕ) (arc : Arc S)
+      → slice_get numbers count ≡ Some number → slice_get graph.arcs number ≡ Some arc → IsNext extend label number arc next → ComesFrom extend graph label next → Puts waiting best next new ahead
       → Spreading label old waiting best numbers count → Spreading label old new (Some ahead) numbers (count + 1)
-  spreading_put label old waiting new None next ahead numbers count number arc gain at is sum enters from puts so_far = record {
+  spreading_put label old waiting new None next ahead numbers count number arc at is enters from puts so_far = record {
     more = so_far.more;
     added = puts.0 ∙ so_far.added;
     come = so_far.come;
     best_comes = subst (ComesFrom extend graph label) (sym puts.1) from;
-    none = λ all none. by_more label numbers count number at (so_far.none all tt) (none_by_next label number arc gain next is sum enters (subst None_at puts.1 none));
+    none = λ all none. by_more label numbers count number at (so_far.none all tt) (none_by_next label number arc next is enters (subst None_at puts.1 none));
   }
-  spreading_put label old waiting new (Some last) next ahead numbers count number arc gain at is sum enters from puts so_far = elim puts [
+  spreading_put label old waiting new (Some last) next ahead numbers count number arc at is enters from puts so_far = elim puts [
     | inl other ↦ record {
       more = so_far.more ++ last ∷ [];
       added = other.0 ∙ (ap (λ (xs : List (Open R)). xs ++ last ∷ []) so_far.added ∙ append_assoc old so_far.more (last ∷ []));
       come = All-push (ComesFrom extend graph label) so_far.more last so_far.come so_far.best_comes;
       best_comes = subst (ComesFrom extend graph label) (sym other.1) from;
-      none = λ all none. by_more label numbers count number at (so_far.none (all_left None_at so_far.more (last ∷ []) all) (all_last None_at so_far.more last all)) (none_by_next label number arc gain next is sum enters (subst None_at other.1 none));
+      none = λ all none. by_more label numbers count number at (so_far.none (all_left None_at so_far.more (last ∷ []) all) (all_last None_at so_far.more last all)) (none_by_next label number arc next is enters (subst None_at other.1 none));
     }
     | inr other ↦ record {
       more = so_far.more ++ next ∷ [];
       added = other.0 ∙ (ap (λ (xs : List (Open R)). xs ++ next ∷ []) so_far.added ∙ append_assoc old so_far.more (next ∷ []));
       come = All-push (ComesFrom extend graph label) so_far.more next so_far.come from;
       best_comes = subst (ComesFrom extend graph label) (sym other.1) so_far.best_comes;
-      none = λ all none. by_more label numbers count number at (so_far.none (all_left None_at so_far.more (next ∷ []) all) (subst None_at other.1 none)) (none_by_next label number arc gain next is sum enters (all_last None_at so_far.more next all));
+      none = λ all none. by_more label numbers count number at (so_far.none (all_left None_at so_far.more (next ∷ []) all) (subst None_at other.1 none)) (none_by_next label number arc next is enters (all_last None_at so_far.more next all));
     }
   ]
 
@@ -245,10 +280,10 @@ module _ {R S E : Type 0} (extend : R → S → Option R) (done : R → E → Bo
   -- the label went on by each arc
   pub hunt_on : (path new : List ℕ) (marks kept : List (List (Mark R))) (waiting more : List (Open R)) (next : Open R) → new ≡ take next.before path ++ next.arc ∷ []
       → KeepsMark marks next.place (record { gain = next.gain; resource = next.resource }) kept
-      → Spreads extend done graph over (record { before = next.before + 1; place = next.place; gain = next.gain; resource = next.resource }) waiting more
+      → Spreads extend done graph over (record { before = length new; place = next.place; gain = next.gain; resource = next.resource }) waiting more
       → Hunts extend done graph over path marks (waiting ++ next ∷ []) → Hunts extend done graph over new kept more
   hunt_on path new marks kept waiting more next is keeps spreads hunts =
-      let label : Label R = record { before = next.before + 1; place = next.place; gain = next.gain; resource = next.resource } in
+      let label : Label R = record { before = length new; place = next.place; gain = next.gain; resource = next.resource } in
       let on = all_last (IsOnPath extend graph path) waiting next hunts.on_path in
       let owes : Owes extend done graph over more (next.place + 1) (reached_open next) = owes_spread waiting more label spreads in
       let low = pairs_last (λ a b. a.before ≤ b.before) waiting next hunts.ascend in
@@ -262,12 +297,12 @@ module _ {R S E : Type 0} (extend : R → S → Option R) (done : R → E → Bo
         ];
         on_path = subst (All (IsOnPath extend graph new)) (sym spreads.added) (All-append (IsOnPath extend graph new) waiting spreads.more
             (λ k d less. still path new (get_or waiting k d) next.before next.arc (all_left (IsOnPath extend graph path) waiting (next ∷ []) hunts.on_path k d less) (low k d less) on.before is)
-            (λ k d less. on_new new label next (get_or spreads.more k d) (subst (λ (chain : List ℕ). Leads extend graph.arcs (source graph.start) chain (reached_open next)) (sym is) on.leads) long (spreads.come k d less)));
+            (λ k d less. on_new new label next (get_or spreads.more k d) (subst (λ (chain : List ℕ). Leads extend graph.arcs (source graph.start) chain (reached_open next)) (sym is) on.leads) refl (spreads.come k d less)));
         ascend = subst (AllPairs (λ a b. a.before ≤ b.before)) (sym spreads.added) (pairs_append (λ a b. a.before ≤ b.before) waiting spreads.more
             (pairs_left (λ a b. a.before ≤ b.before) waiting (next ∷ []) hunts.ascend)
             (λ i j d less within. let a = (spreads.come i d (omega (arith, less, within))).before in let b = (spreads.come j d within).before in omega (arith, a, b))
-            (λ k d less. λ j e within. let a = low k d less in let b = (spreads.come j e within).before in omega (arith, a, b)));
-        count = keeps.count ∙ hunts.count;
+            (λ k d less. λ j e within. let a = low k d less in let b = (spreads.come j e within).before in let most = on.before in omega (arith, a, b, long)));
+        count = (let same = keeps.count in let count = hunts.count in omega (arith, same, count));
       }
     where
       marked_now : (place : ℕ) (mark : Mark R) → place ≡ next.place → mark ≡ record { gain = next.gain; resource = next.resource } → Owes extend done graph over more (next.place + 1) (reached_open next) → Owes extend done graph over more (place + 1) (reached_mark place mark)
@@ -299,7 +334,7 @@ module _ {R S E : Type 0} (extend : R → S → Option R) (done : R → E → Bo
           }
 
   -- the source went on by each arc
-  pub hunt_start : (marks : List (List (Mark R))) (waiting : List (Open R)) → All (λ row. row ≡ []) marks → length marks ≡ graph.places → Spreads extend done graph over (record { before = 0; place = 0; gain = pos 0; resource = graph.start }) [] waiting → Hunts extend done graph over [] marks waiting
+  pub hunt_start : (marks : List (List (Mark R))) (waiting : List (Open R)) → All (λ row. row ≡ []) marks → length marks + 1 ≡ graph.places → Spreads extend done graph over (record { before = 0; place = 0; gain = pos 0; resource = graph.start }) [] waiting → Hunts extend done graph over [] marks waiting
   hunt_start marks waiting bare count spreads =
       let label : Label R = record { before = 0; place = 0; gain = pos 0; resource = graph.start } in
       let owes = owes_spread [] waiting label spreads in

@@ -3,13 +3,13 @@ use Rattle.std.proofs.Common.{◌≡◌, ◌≢◌, ℕ, ◌+◌, ◌<◌, List,
 use Rattle.std.specs.declared.alloc.Global.{Global}
 use Rattle.std.specs.Prelude.{Contains, slice_get, All}
 use Rattle.std.proofs.lemmas.Option.{slice_get_read, slice_get_within}
-use Rattle.std.proofs.lemmas.List.{map-set}
+use Rattle.std.proofs.lemmas.List.{length-map, map-set}
 use Rattle.std.proofs.lemmas.List.Elements.{All-nil, All-push, All-map, All-contains, Contains-push, Contains-append_left}
 use Rattle.chain_search.proofs.ListReads.{below_or_at, contains_read, same_or_not, same_some, set_read_same, set_read_other}
 use Rattle.chain_search.proofs.ListReads.{list_there}
 use Rattle.label_setter.specs.declared.graph.Arc.{Arc}
 use Rattle.label_setter.specs.Graphs.{FitsPlaces}
-use Rattle.chain_search.specs.Leavings.{LeavesFrom, Leaving}
+use Rattle.chain_search.specs.Leavings.{AreWays, LeavesFrom, Leaving}
 
 pub record Listed {S : Type 0} (arcs : List (Arc S)) (place i : ℕ) (numbers : List ℕ) : Type 0 where
   pub listed : (number : ℕ) (arc : Arc S) → number < i → slice_get arcs number ≡ Some arc → arc.from ≡ place → Contains numbers number
@@ -79,3 +79,10 @@ module _ {S : Type 0} (arcs : List (Arc S)) where
       let inside : arc.from < length lists = (let forward = fits.forward in let end = fits.within in omega (arith, count)) in
       let list_is = list_there lists arc.from list inside list_read in
       rw (map-set (λ (l : Vec ℕ Global). l.items) lists arc.from new, adds) (Grouped-takes (map (λ (l : Vec ℕ Global). l.items) lists) i arc list.items within read list_is so_far)
+
+  -- after all arcs
+  pub ways_all : (lists : List (Vec ℕ Global)) (places count : ℕ) → length lists ≡ places → count ≡ length arcs → Grouped arcs count (map (λ list. list.items) lists) → AreWays arcs places (map (λ list. list.items) lists)
+  ways_all lists places count long all grouped = record {
+    count = length-map lists (λ (l : Vec ℕ Global). l.items) ∙ long;
+    leaving = λ place numbers is. Listed-all arcs place numbers (subst (λ i. Listed arcs place i numbers) all (grouped.each place numbers is));
+  }

@@ -4,3 +4,5 @@ pub mod RestLemmas
 pub mod Walking
 pub mod Hunting
 pub mod BitLoops
+pub mod BitChoice
+pub mod Marked

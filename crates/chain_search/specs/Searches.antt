@@ -28,17 +28,18 @@ abbrev pub reached_mark : {R : Type 0} → ℕ → Mark R → Reached R
 reached_mark place mark = record { place = place; gain = mark.gain; resource = mark.resource }
 
 -- the label after the arc
-pub record IsNext {R S : Type 0} (extend : R → S → Option R) (label : Label R) (number : ℕ) (arc : Arc S) (gain : ℤ) (next : Open R) : Type 0 where
+pub record IsNext {R S : Type 0} (extend : R → S → Option R) (label : Label R) (number : ℕ) (arc : Arc S) (next : Open R) : Type 0 where
   pub extends : extend label.resource arc.step ≡ Some next.resource
   pub arc_is : next.arc ≡ number
   pub before : next.before ≡ label.before
   pub place : next.place ≡ arc.to
-  pub sum : next.gain ≡ gain
+  pub sum : next.gain ≡ label.gain +ℤ arc.gain
+  pub within : IsWithin arc.to next.gain
 
 -- nothing where the arc refuses, or nothing above the bound is left
-abbrev pub Enters : {R S : Type 0} → (R → S → Option R) → (ℕ → R → ℤ) → ℤ → Label R → ℕ → Arc S → ℤ → Option (Open R) → Type 0
-Enters extend rest over label number arc gain (Some next) = IsNext extend label number arc gain next
-Enters {R} extend rest over label number arc gain None = (resource : R) → extend label.resource arc.step ≡ Some resource → (gain +ℤ rest arc.to resource) ≤ℤ over
+abbrev pub Enters : {R S : Type 0} → (R → S → Option R) → (ℕ → R → ℤ) → ℤ → Label R → ℕ → Arc S → Option (Open R) → Type 0
+Enters extend rest over label number arc (Some next) = IsNext extend label number arc next
+Enters {R} extend rest over label number arc None = (resource : R) → extend label.resource arc.step ≡ Some resource → (label.gain +ℤ arc.gain +ℤ rest arc.to resource) ≤ℤ over
 
 -- of two labels the one waits, and the other is the best so far
 abbrev pub Puts : {R : Type 0} → List (Open R) → Option (Open R) → Open R → List (Open R) → Open R → Type 0
@@ -78,4 +79,4 @@ pub record Hunts {R S E : Type 0} (extend : R → S → Option R) (done : R → 
   pub marked : (place : ℕ) (mark : Mark R) → Stands marks place mark → Owes extend done graph over waiting (place + 1) (reached_mark place mark)
   pub on_path : All (IsOnPath extend graph path) waiting
   pub ascend : AllPairs (λ a b. a.before ≤ b.before) waiting
-  pub count : length marks ≡ graph.places
+  pub count : length marks + 1 ≡ graph.places

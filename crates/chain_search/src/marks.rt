@@ -2,7 +2,7 @@
 
 ghost use Rattle.std.specs.Prelude.{◌≡◌, ◌<◌, [], All, IfOk, IfSome, OnOk, length, slice_get};
 ghost use Rattle.std.specs.List.{list_any};
-ghost use Rattle.chain_search.specs.Marking.{KeepsMark, dispenses};
+ghost use Rattle.chain_search.specs.Marking.{HoldsMore, KeepsMark, dispenses};
 
 use duty_calendar::Memory;
 use label_lattice::Resource;
@@ -50,6 +50,22 @@ fn any_dispenses<R: Resource>(marks: &[Mark<R>], gain: i64, resource: &R) -> boo
         .any(|mark| gain <= mark.gain && mark.resource.below(resource))
 }
 
+impl<R: Resource> MarkRow<R> {
+    /// Puts a mark into the row.
+    fn keep(&mut self, mark: Mark<R>) -> Result<(), Memory>
+        ensures kept { OnOk result (HoldsMore self.old.marks.items mark self.new.marks.items) }
+    {
+        if self.marks.len() < MOST {
+            self.marks.push(mark)?;
+            return Ok(());
+        }
+        let slot = self.next % MOST;
+        self.marks[slot] = mark;
+        self.next = slot + 1;
+        Ok(())
+    }
+}
+
 impl<R: Resource> Marks<R> {
     /// No mark beside any of so many places.
     pub fn new(alloc: Global, places: u32) -> Result<Marks<R>, Memory>
@@ -81,13 +97,6 @@ impl<R: Resource> Marks<R> {
         ensures kept { OnOk result (KeepsMark self.old place mark self.new) }
     {
         let row = &mut self.rows[place as usize];
-        if row.marks.len() < MOST {
-            row.marks.push(mark)?;
-            return Ok(());
-        }
-        let slot = row.next % MOST;
-        row.marks[slot] = mark;
-        row.next = slot + 1;
-        Ok(())
+        row.keep(mark)
     }
 }

@@ -10,7 +10,7 @@ ghost use Rattle.chain_search.specs.Searches.{Hunts};
 
 use crate::marks::{Mark, Marks};
 use crate::turns::{Label, Open, spread};
-use crate::ways::Ways;
+use crate::ways::{Ways, sink_of};
 use duty_calendar::{List, Memory};
 use label_lattice::{Resource, Steps};
 use label_setter::{Above, Graph, Rest, Traced};
@@ -75,7 +75,7 @@ fn turn<R: Resource, B: Rest<R>, L: Ledger>(
     ensures smaller { OnOk result (walk.new.left + length walk.new.waiting.items ≤ walk.old.left + length walk.old.waiting.items) }
     ensures steps { steps.new + walk.new.left ≡ steps.old + walk.old.left }
 {
-    if next.place + 1 == graph.places() {
+    if next.place == sink_of(graph) {
         if !ends_above(graph, above, next) {
             return Ok(Outcome::Goes);
         }
@@ -94,7 +94,7 @@ fn turn<R: Resource, B: Rest<R>, L: Ledger>(
     walk.path.truncate(next.before);
     walk.path.push(next.arc)?;
     let label = Label {
-        before: next.before + 1,
+        before: walk.path.len(),
         place: next.place,
         gain: next.gain,
         resource: next.resource,
@@ -134,6 +134,7 @@ pub fn find_above<R: Resource, B: Rest<R>, L: Ledger>(
     ensures unknown { result ≡ Ok Answer.Unknown → steps.new ≡ steps.old + limit }
     ensures steps { steps.new ≤ steps.old + limit }
 {
+    let sink = sink_of(graph);
     let start = graph.start();
     if above.rest.rest(0, &start) <= above.over {
         return Ok(Answer::Nothing);
@@ -141,7 +142,7 @@ pub fn find_above<R: Resource, B: Rest<R>, L: Ledger>(
     let mut walk = Walk {
         waiting: Vec::new(alloc),
         path: Vec::new(alloc),
-        marks: Marks::new(alloc, graph.places())?,
+        marks: Marks::new(alloc, sink)?,
         left: limit,
     };
     let label = Label {

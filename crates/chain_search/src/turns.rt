@@ -1,6 +1,6 @@
 //! Labels that wait for their turn.
 
-ghost use Rattle.std.specs.Prelude.{◌≡◌, ◌+◌, ◌<◌, ◌≤◌, ◌+ℤ◌, ◌≤ℤ◌, ℕ, IfOk, OnOk, Ok, length, true, false};
+ghost use Rattle.std.specs.Prelude.{◌≡◌, ◌+◌, ◌<◌, ◌≤◌, ◌+ℤ◌, ◌≤ℤ◌, ℕ, IfNone, IfOk, OnOk, Ok, length, true, false};
 ghost use Rattle.label_setter.specs.Rests.{IsRest};
 ghost use Rattle.label_setter.specs.Graphs.{FitsPlaces};
 ghost use Rattle.chain_search.specs.Leavings.{Leaving};
@@ -48,31 +48,6 @@ fn spend<L: Ledger>(left: &mut u64, steps: &mut Steps<L>) -> bool
     true
 }
 
-/// The label after the arc, where it extends and a chain may come above the bound from there.
-fn enter<R: Resource, B: Rest<R>>(
-    above: &Above<B>,
-    label: &Label<R>,
-    number: u32,
-    arc: &Arc<R::Step>,
-    gain: i64,
-) -> Option<Open<R>>
-    ensures enters { Enters R.extend (B.rest above.now.rest) above.now.over label.now number arc.now gain result }
-{
-    let resource = label.resource.extend(&arc.step)?;
-    let rest = above.rest.rest(arc.to, &resource);
-    if i128::from(gain) + i128::from(rest) <= i128::from(above.over) {
-        return None;
-    }
-    Some(Open {
-        arc: number,
-        before: label.before,
-        place: arc.to,
-        gain,
-        most: gain.saturating_add(rest),
-        resource,
-    })
-}
-
 /// What was gained after the arc.
 fn gain_by<R: Resource>(label: &Label<R>, arc: &Arc<R::Step>, places: u32) -> i64
     requires fits { FitsPlaces places arc.now }
@@ -83,6 +58,48 @@ fn gain_by<R: Resource>(label: &Label<R>, arc: &Arc<R::Step>, places: u32) -> i6
     ensures within { IsWithin arc.now.to result }
 {
     label.gain + arc.gain
+}
+
+/// What a chain may come to from a label, where that is above the bound.
+fn most_above<R, B: Rest<R>>(above: &Above<B>, label: &Label<R>) -> Option<i64>
+    ensures low { IfNone result ((label.now.gain +ℤ B.rest above.now.rest label.now.place label.now.resource) ≤ℤ above.now.over) }
+{
+    let rest = above.rest.rest(label.place, &label.resource);
+    if i128::from(label.gain) + i128::from(rest) <= i128::from(above.over) {
+        return None;
+    }
+    Some(label.gain.saturating_add(rest))
+}
+
+/// The label after the arc, where it extends and a chain may come above the bound from there.
+fn enter<R: Resource, B: Rest<R>>(
+    above: &Above<B>,
+    label: &Label<R>,
+    number: u32,
+    arc: &Arc<R::Step>,
+    places: u32,
+) -> Option<Open<R>>
+    requires fits { FitsPlaces places arc.now }
+    requires from { arc.now.from ≡ label.now.place }
+    requires few { places ≤ 2000 }
+    requires within { IsWithin label.now.place label.now.gain }
+    ensures enters { Enters R.extend (B.rest above.now.rest) above.now.over label.now number arc.now result }
+{
+    let next = Label {
+        before: label.before,
+        place: arc.to,
+        gain: gain_by(label, arc, places),
+        resource: label.resource.extend(&arc.step)?,
+    };
+    let most = most_above(above, &next)?;
+    Some(Open {
+        arc: number,
+        before: next.before,
+        place: next.place,
+        gain: next.gain,
+        most,
+        resource: next.resource,
+    })
 }
 
 /// Lets the one wait that may come to less, and gives back the other.
@@ -131,10 +148,10 @@ pub fn spread<R: Resource, B: Rest<R>, L: Ledger>(
             return Ok(false);
         }
         let arc = &arcs[number as usize];
-        let gain = gain_by(label, arc, graph.places());
-        if let Some(next) = enter(above, label, number, arc, gain) {
-            best = Some(put(waiting, best, next)?);
-        }
+        let Some(next) = enter(above, label, number, arc, graph.places()) else {
+            continue;
+        };
+        best = Some(put(waiting, best, next)?);
     }
     if let Some(last) = best {
         waiting.push(last)?;

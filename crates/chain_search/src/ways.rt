@@ -1,6 +1,7 @@
 //! The arcs that leave each place.
 
-ghost use Rattle.std.specs.Prelude.{◌≡◌, ◌<◌, [], All, IfOk, Some, length, map, slice_get};
+ghost use Rattle.std.specs.Prelude.{◌≡◌, ◌+◌, ◌<◌, [], All, IfOk, Some, length, map, slice_get};
+ghost use Rattle.label_setter.specs.Graphs.{IsGraph};
 ghost use Rattle.chain_search.specs.Leavings.{AreWays};
 
 use duty_calendar::Memory;
@@ -21,6 +22,15 @@ impl Model for Ways {
     ghost Value = { List (List ℕ) };
 
     ghost view = { λ w. map (λ list. list.items) w.lists.items };
+}
+
+/// The last place of a graph, to which all its chains lead.
+pub(crate) fn sink_of<R: Resource>(graph: &Graph<R>) -> u32
+    ensures sink { result + 1 ≡ graph.now.places }
+    ensures graph { IsGraph graph.now.places graph.now.arcs }
+{
+    let _arcs = graph.arcs();
+    graph.places() - 1
 }
 
 /// So many empty lists.
