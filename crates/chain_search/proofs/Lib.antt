@@ -6,3 +6,4 @@ pub mod Hunting
 pub mod BitLoops
 pub mod BitChoice
 pub mod Marked
+pub mod TableRows

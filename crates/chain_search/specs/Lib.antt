@@ -4,6 +4,7 @@ pub mod Marking
 pub mod Searches
 pub mod LeastRests
 pub mod Views
+pub mod Rows
 pub mod Tables
 pub mod Blinds
 pub mod Rooms
