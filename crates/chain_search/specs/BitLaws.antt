@@ -92,13 +92,13 @@ set_or_unset bits place weight weights state light =
     subst (λ n. (if n == 1 then weight else 0) + unset_weight bits weights (suc place) ≤ slice_index weights place + unset_weight bits weights place) (sym (low_bit (bit_at bits place) state (bit_at-lt bits place)))
     (one_way (bit_at bits place) weight (slice_index weights place) (unset_weight bits weights place) (bit_at-lt bits place) light)
 
-record Known (least : ℕ) (bit : Chosen) (chosen : List Chosen) (weights : List ℕ) : Type 0 where
-  later : least ≤ bit.place
-  inside : bit.place < length weights
-  light : bit.weight ≤ slice_index weights bit.place
-  rest : are_known (bit.place + 1) chosen weights ≡ true
+pub record Known (least : ℕ) (bit : Chosen) (chosen : List Chosen) (weights : List ℕ) : Type 0 where
+  pub later : least ≤ bit.place
+  pub inside : bit.place < length weights
+  pub light : bit.weight ≤ slice_index weights bit.place
+  pub rest : are_known (bit.place + 1) chosen weights ≡ true
 
-known_parts : (least : ℕ) (bit : Chosen) (chosen : List Chosen) (weights : List ℕ) → are_known least (bit ∷ chosen) weights ≡ true → Known least bit chosen weights
+pub known_parts : (least : ℕ) (bit : Chosen) (chosen : List Chosen) (weights : List ℕ) → are_known least (bit ∷ chosen) weights ≡ true → Known least bit chosen weights
 known_parts least bit chosen weights known =
     let one = and_parts (nat_le least bit.place && nat_lt bit.place (length weights) && nat_le bit.weight (slice_index weights bit.place)) (are_known (bit.place + 1) chosen weights) known in
     let two = and_parts (nat_le least bit.place && nat_lt bit.place (length weights)) (nat_le bit.weight (slice_index weights bit.place)) one.0 in

@@ -107,10 +107,14 @@ fn choose(alloc: Global, choice: u64, weights: &[u32; 64]) -> Result<Vec<Chosen>
 {
     let mut chosen = Vec::new(alloc);
     for place in 0..64u32 {
-        if chosen.len() < MOST && bit_of(choice, place) == 1 {
-            let weight = weights[place as usize];
-            chosen.push(Chosen { place, weight })?;
+        if bit_of(choice, place) == 0 {
+            continue;
         }
+        if chosen.len() >= MOST {
+            continue;
+        }
+        let weight = weights[place as usize];
+        chosen.push(Chosen { place, weight })?;
     }
     Ok(chosen)
 }
