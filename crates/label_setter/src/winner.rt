@@ -1,9 +1,9 @@
 //! The best label of the sink, and the way back from it.
 
 ghost use Rattle.std.specs.Prelude.{◌≡◌, ◌+◌, ◌<◌, ◌≤◌, ◌&&◌, ℕ, ℤ, All, Bool, Contains, IfOk, List, Some, if◌then◌else◌, length, slice_get};
-ghost use Rattle.label_setter.specs.Chains.{end_of, places_of, source};
+ghost use Rattle.label_setter.specs.Chains.{Leads, end_of, places_of, source};
 ghost use Rattle.label_setter.specs.Graphs.{FitsPlaces};
-ghost use Rattle.label_setter.specs.Labels.{BestDone, GraphLabels, HasWay, beats};
+ghost use Rattle.label_setter.specs.Labels.{BestDone, GraphLabels, beats};
 ghost use Rattle.label_setter.specs.Arenas.{IsRow, rows_in};
 
 use crate::graph::Arc;
@@ -84,7 +84,7 @@ pub fn arcs_to<R: Resource>(
     requires rows { All (IsRow (length labels.now)) rows.now }
     requires labels { (passes : ℕ → ℤ → R → Bool) × (start : R) × GraphLabels R.below R.extend passes start arcs.now (rows_in labels.now rows.now) }
     requires kept { (row : List (Label R)) × (slice_get (rows_in labels.now rows.now) place ≡ Some row) × Contains row label }
-    ensures way { IfOk result (λ numbers. (passes : ℕ → ℤ → R → Bool) (start : R) → GraphLabels R.below R.extend passes start arcs.now (rows_in labels.now rows.now) → HasWay R.extend arcs.now (source start) (record { place = place; gain = label.gain; resource = label.resource }) numbers) }
+    ensures way { IfOk result (λ numbers. (passes : ℕ → ℤ → R → Bool) (start : R) → GraphLabels R.below R.extend passes start arcs.now (rows_in labels.now rows.now) → Leads R.extend arcs.now (source start) numbers (record { place = place; gain = label.gain; resource = label.resource })) }
 {
     let mut numbers = Vec::new(alloc);
     let mut place = place;
