@@ -140,7 +140,6 @@ chosen_weight (bit ∷ chosen) bits least weights within known =
     let unset : unset_weight bits weights (bit.place + 1) ≡ unset_weight bits weights (suc bit.place) = ap (unset_weight bits weights) one in
     rw half (omega (arith, rest, here, before, all, unset))
 
-
 total_tail : (weight : ℕ) (weights : List ℕ) (k : ℕ) → total (weight ∷ weights) (suc k) ≡ weight + total weights k
 unfolding total
 total_tail weight weights zero = omega arith

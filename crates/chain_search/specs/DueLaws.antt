@@ -51,7 +51,6 @@ over_least x u m some p =
         ]
     go false e = let m = most in omega (arith, m)
 
-
 over_le : (a b u : ℕ) → a ≤ b → units_over a u ≤ units_over b u
 over_le a b zero p = let x : a / zero ≡ 0 = div-zero a in let y : b / zero ≡ 0 = div-zero b in grind (arith, nat_tests)
 over_le a b (suc u) p = over_least a (suc u) (units_over b (suc u)) (omega arith) (let e = over_enough b (suc u) (omega arith) in omega (arith, e, p))

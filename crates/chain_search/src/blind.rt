@@ -19,7 +19,7 @@ impl<R: Resource> Coarse<R> for Blind {
 
     ghost moves = { λ by state. Some 0 };
 
-    ghost move_of = { λ view step. record { } };
+    ghost move_of = { λ view step. record {} };
 
     ghost ends = { λ view state. true };
 

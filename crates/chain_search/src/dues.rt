@@ -21,7 +21,11 @@ fn units_over(amount: u32, unit: u32) -> u32
     ensures units { result ≡ units_over amount unit }
 {
     let whole = units_in(amount, unit);
-    if whole * unit < amount { whole + 1 } else { whole }
+    if whole * unit < amount {
+        whole + 1
+    } else {
+        whole
+    }
 }
 
 impl Coarse<Span> for Due {

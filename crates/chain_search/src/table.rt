@@ -55,7 +55,11 @@ fn sink_row<R: Resource, C: Coarse<R>>(alloc: Global, coarse: &C) -> Result<Vec<
 {
     let mut row = Vec::new(alloc);
     for state in 0..coarse.count() {
-        row.push(if coarse.ends(state as u32) { 0 } else { IMPOSSIBLE })?;
+        row.push(if coarse.ends(state as u32) {
+            0
+        } else {
+            IMPOSSIBLE
+        })?;
     }
     Ok(row)
 }
@@ -158,7 +162,8 @@ pub fn coarse_rest<R: Resource, C: Coarse<R> + Drop>(
 {
     let sink = sink_of(graph);
     let mut row = sink_row(alloc, &coarse)?;
-    let mut table = Vec::new(alloc);
+    let size = (graph.places() as usize).saturating_mul(row.len());
+    let mut table = Vec::with_capacity(alloc, size)?;
     table.extend_from_slice(&row)?;
     for back in 1..sink + 1 {
         let place = sink - back;

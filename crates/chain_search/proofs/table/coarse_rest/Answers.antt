@@ -8,7 +8,7 @@ use Rattle.chain_search.proofs.table.coarse_rest.Goals as goal
 pub loop-back-init : goal.loop-back-init
 loop-back-init g c =
     let table_is : c.extend_from_slice.new.self.items ≡ [] ++ c.in_ok-row.row.items =
-    c.in_ok-extend_from_slice.ensures.items ∙ (ap (λ (xs : List ℤ). xs ++ c.deref.result.now) c.new-table.ensures.items ∙ ap (λ (ys : List ℤ). [] ++ ys) c.deref.ensures.value) in
+    c.in_ok-extend_from_slice.ensures.items ∙ (ap (λ (xs : List ℤ). xs ++ c.deref.result.now) c.in_ok-table.ensures.items ∙ ap (λ (ys : List ℤ). [] ++ ys) c.deref.ensures.value) in
     record {
       wide = c.in_ok-row.ensures.long;
       filled = filled_start (λ (step : g.row.R-Step.Denot). g.C.Coarse.moves (g.C.Coarse.move_of c.args.coarse step)) (g.C.Coarse.ends c.args.coarse) (g.C.Coarse.count c.args.coarse) c.args.graph.now.places c.args.graph.now.arcs c.sink_of-sink.ensures.graph
