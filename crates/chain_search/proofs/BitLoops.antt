@@ -1,11 +1,11 @@
 -- The loops over chosen bits.
-use Rattle.std.proofs.Common.{◌≡◌, ℕ, suc, ◌+◌, ◌-◌, ◌*◌, ◌/◌, ◌%◌, ◌^◌, ◌<◌, ◌≤◌, ◌==◌, Bool, true, List, ◌∷◌, cond, refl, sym, ◌∙◌, ap, subst, arith, length, get_or, drop, if◌then◌else◌}
+use Rattle.std.proofs.Common.{◌≡◌, ℕ, suc, ◌+◌, ◌-◌, ◌*◌, ◌^◌, ◌<◌, ◌≤◌, List, ◌∷◌, sym, ◌∙◌, ap, subst, arith, length, get_or, drop}
 use Rattle.std.specs.Int.{bit_at}
 use Rattle.std.proofs.lemmas.List.{length-drop}
 use Rattle.std.proofs.Math.Seq.{drop-cons}
 use Rattle.std.proofs.Math.Pow.{pow_mono}
 use Rattle.chain_search.specs.declared.chosen.Chosen.{Chosen}
-use Rattle.chain_search.specs.BitStates.{state_of, weight_of}
+use Rattle.chain_search.specs.BitStates.{state_of}
 use Rattle.chain_search.specs.BitLaws.{state_below}
 
 pub small_state : (chosen : List Chosen) (bits back state : ℕ) → length chosen ≤ 14 → back < length chosen → state ≡ state_of (drop (length chosen - back) chosen) bits → state < 2 ^ 13

@@ -1,12 +1,12 @@
 -- Marks beside places.
-use Rattle.std.proofs.Common.{◌≡◌, ◌≢◌, ℕ, ◌+◌, ◌<◌, List, [], ◌∷◌, ◌++◌, ◌⊎◌, Some, inl, inr, refl, sym, ◌∙◌, ap, subst, arith, length, get_or, set, map}
+use Rattle.std.proofs.Common.{◌≡◌, ℕ, ◌<◌, List, [], ◌∷◌, ◌++◌, Some, inl, inr, refl, sym, ◌∙◌, ap, subst, arith, length, get_or, set, map}
 use Rattle.std.specs.Prelude.{Contains, option_map, slice_get}
 use Rattle.std.proofs.lemmas.List.{length-map, length-set, map-set}
 use Rattle.std.proofs.lemmas.List.Elements.{Contains-push_cases}
 use Rattle.std.proofs.lemmas.Option.{slice_get-map, slice_get_read}
 use Rattle.chain_search.specs.declared.marks.Mark.{Mark}
 use Rattle.chain_search.specs.declared.marks.MarkRow.{MarkRow}
-use Rattle.chain_search.specs.Marking.{HoldsMore, KeepsMark, Stands}
+use Rattle.chain_search.specs.Marking.{HoldsMore, KeepsMark}
 use Rattle.chain_search.proofs.ListReads.{contains_read, read_contains, same_or_not, set_read_other, set_read_same}
 
 pub more_pushed : {R : Type 0} (old new : List (Mark R)) (mark : Mark R) → new ≡ old ++ mark ∷ [] → HoldsMore old mark new

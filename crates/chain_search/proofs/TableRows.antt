@@ -1,6 +1,6 @@
 -- How a table is filled row by row.
-use Rattle.std.proofs.Common.{◌≡◌, ◌≢◌, ℕ, ℤ, suc, ◌+◌, ◌-◌, ◌*◌, ◌^◌, ◌<◌, ◌≤◌, ◌+ℤ◌, ◌≤ℤ◌, neg_ℤ, pos, List, [], ◌∷◌, ◌++◌, ◌⊎◌, Bool, true, false, Option, Some, None, inl, inr, refl, sym, ◌∙◌, ap, subst, arith, length, get_or, set, take, length-append}
-use Rattle.std.specs.Prelude.{All, Contains, slice_get, ◌&&◌}
+use Rattle.std.proofs.Common.{◌≡◌, ℕ, ℤ, ◌+◌, ◌-◌, ◌*◌, ◌^◌, ◌<◌, ◌≤◌, ◌+ℤ◌, ◌≤ℤ◌, neg_ℤ, pos, List, [], ◌++◌, ◌⊎◌, Bool, true, Option, Some, inl, inr, sym, ◌∙◌, ap, subst, arith, length, get_or, set, take, length-append}
+use Rattle.std.specs.Prelude.{slice_get}
 use Rattle.std.specs.List.{list_all}
 use Rattle.std.proofs.lemmas.Bool.{and_parts}
 use Rattle.std.proofs.lemmas.Int.{ints}
@@ -11,7 +11,7 @@ use Rattle.std.proofs.lemmas.List.Elements.{All-contains}
 use Rattle.std.proofs.Math.Nat.{mul-le-mul_right}
 use Rattle.label_setter.specs.declared.graph.Arc.{Arc}
 use Rattle.label_setter.specs.Graphs.{FitsPlaces, IsGraph}
-use Rattle.label_setter.specs.Chains.{GraphOf, Reached, Takes}
+use Rattle.label_setter.specs.Chains.{GraphOf}
 use Rattle.label_setter.specs.Rests.{IsRest}
 use Rattle.chain_search.specs.Leavings.{Leaving}
 use Rattle.chain_search.specs.Rows.{GoesBack, IsBetween, RaisedBy}

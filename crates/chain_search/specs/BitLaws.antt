@@ -1,8 +1,8 @@
 -- The laws of `Bits`.
-use Rattle.std.specs.Prelude.{◌≡◌, ◌<◌, ◌≤◌, ◌+◌, ◌-◌, ◌*◌, ◌/◌, ◌%◌, ◌^◌, ◌==◌, ◌&&◌, ◌⊎◌, ℕ, zero, suc, max, min, Bool, true, false, List, [], ◌∷◌, Option, Some, bit_and, bit_or, length, nat_le, nat_lt, slice_index, sum, if◌then◌else◌, refl}
+use Rattle.std.specs.Prelude.{◌≡◌, ◌<◌, ◌≤◌, ◌+◌, ◌-◌, ◌*◌, ◌/◌, ◌%◌, ◌^◌, ◌==◌, ◌&&◌, ℕ, zero, suc, max, min, Bool, true, false, List, [], ◌∷◌, Some, bit_and, bit_or, length, nat_le, nat_lt, slice_index, sum, if◌then◌else◌, refl}
 use Rattle.std.specs.Int.{bit_at}
 use Rattle.std.specs.Int.Bits.{and_lt}
-use Rattle.std.proofs.Common.{arith, sym, ◌∙◌, ap, subst, inl, inr, pow-suc}
+use Rattle.std.proofs.Common.{arith, sym, ◌∙◌, ap, subst, pow-suc}
 use Rattle.std.proofs.lemmas.Nat.{or_lt}
 use Rattle.std.proofs.lemmas.List.Sums.{sum_by-cons}
 use Rattle.std.proofs.lemmas.Bool.{and_parts}
@@ -14,7 +14,6 @@ use Rattle.label_lattice.specs.declared.masks.MaskEnd.{MaskEnd}
 use Rattle.label_lattice.specs.Mask.{mask_done, mask_extend, unset_weight}
 use Rattle.chain_search.specs.declared.chosen.Chosen.{Chosen}
 use Rattle.chain_search.specs.declared.chosen.Bits.{Bits}
-use Rattle.chain_search.specs.declared.bits.BitsMove.{BitsMove}
 use Rattle.chain_search.specs.Views.{CoarseLaws}
 use Rattle.chain_search.specs.BitStates.{are_known, bits_count, bits_ends, bits_fit_end, bits_move, bits_moves, bits_shows, state_of, weight_of}
 

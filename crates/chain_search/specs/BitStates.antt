@@ -1,5 +1,5 @@
 -- Chosen bits of a set as a state, and what they weigh.
-use Rattle.std.specs.Prelude.{◌≡◌, ◌+◌, ◌-◌, ◌*◌, ◌/◌, ◌%◌, ◌^◌, ◌==◌, ◌&&◌, ℕ, Bool, true, List, [], ◌∷◌, Option, Some, bit_and, bit_or, filter, length, map, nat_le, nat_lt, slice_index, sum, take, if◌then◌else◌}
+use Rattle.std.specs.Prelude.{◌+◌, ◌-◌, ◌*◌, ◌/◌, ◌%◌, ◌^◌, ◌==◌, ◌&&◌, ℕ, Bool, true, List, [], ◌∷◌, Option, Some, bit_and, bit_or, filter, length, map, nat_le, nat_lt, slice_index, sum, take, if◌then◌else◌}
 use Rattle.std.specs.List.{range_with_len}
 use Rattle.std.specs.Int.{bit_at}
 use Rattle.label_lattice.specs.declared.masks.MaskStep.{MaskStep}

@@ -1,5 +1,5 @@
 -- A view that sees nothing.
-use Rattle.std.specs.Prelude.{◌≡◌, ℕ, Bool, true, Option, Some, refl}
+use Rattle.std.specs.Prelude.{◌≡◌, Bool, true, Option, Some, refl}
 use Rattle.std.proofs.Common.{arith}
 use Rattle.chain_search.specs.Views.{CoarseLaws}
 

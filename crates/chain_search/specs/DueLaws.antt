@@ -1,12 +1,9 @@
 -- The laws of `Due`.
-use Rattle.std.specs.Prelude.{◌≡◌, ◌<◌, ◌≤◌, ◌+◌, ◌-◌, ◌*◌, ◌/◌, ◌==◌, ◌&&◌, ◌^◌, ◌⊎◌, ℕ, min, zero, suc, Bool, Option, Some, None, true, false, nat_le, nat_lt, if◌then◌else◌, refl}
+use Rattle.std.specs.Prelude.{◌≡◌, ◌<◌, ◌≤◌, ◌+◌, ◌-◌, ◌*◌, ◌/◌, ◌==◌, ◌^◌, ◌⊎◌, ℕ, zero, suc, Bool, Some, true, false, nat_le, nat_lt, if◌then◌else◌, refl}
 use Rattle.std.proofs.Common.{arith, sym, ◌∙◌, ap, subst, inl, inr}
 use Rattle.std.proofs.lemmas.Bool.{and_parts}
 use Rattle.std.proofs.lemmas.Bool.Decides.{nat_tests}
 use Rattle.std.proofs.Math.Nat.{div-zero, lt-div-mul-add, mul-div_cancel, mul-sub, zero-div}
-use Rattle.label_lattice.specs.declared.spans.Span.{Span}
-use Rattle.label_lattice.specs.declared.spans.SpanStep.{SpanStep}
-use Rattle.label_lattice.specs.declared.spans.SpanEnd.{SpanEnd}
 use Rattle.label_lattice.specs.Span.{span_extend, span_done}
 use Rattle.chain_search.specs.declared.dues.Due.{Due}
 use Rattle.chain_search.specs.Views.{CoarseLaws}

@@ -1,5 +1,5 @@
 -- How many units a sum is below the low end.
-use Rattle.std.specs.Prelude.{◌+◌, ◌-◌, ◌*◌, ◌/◌, ◌^◌, ◌==◌, ◌&&◌, ℕ, Bool, Option, Some, nat_le, nat_lt, if◌then◌else◌}
+use Rattle.std.specs.Prelude.{◌+◌, ◌-◌, ◌*◌, ◌/◌, ◌^◌, ◌&&◌, ℕ, Bool, nat_le, nat_lt, if◌then◌else◌}
 use Rattle.label_lattice.specs.declared.spans.Span.{Span}
 use Rattle.label_lattice.specs.declared.spans.SpanStep.{SpanStep}
 use Rattle.label_lattice.specs.declared.spans.SpanEnd.{SpanEnd}

@@ -1,5 +1,5 @@
 -- The laws of views of a part of a pair.
-use Rattle.std.specs.Prelude.{◌≡◌, ℕ, ◌&&◌, Bool, Option, Some, None, true, refl}
+use Rattle.std.specs.Prelude.{◌≡◌, ℕ, Bool, Option, Some, None}
 use Rattle.std.proofs.lemmas.Bool.{and_parts}
 use Rattle.label_lattice.specs.declared.pairs.Pair.{Pair}
 use Rattle.label_lattice.specs.Pair.{both_of, pair_done, pair_extend}

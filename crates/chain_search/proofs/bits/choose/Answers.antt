@@ -1,5 +1,5 @@
-use Rattle.std.proofs.Common.{◌≡◌, ◌<◌, ◌≤◌, length, sym, ◌∙◌, arith}
-use Rattle.chain_search.proofs.BitChoice.{IsChosen, chosen_all, chosen_full, chosen_push, chosen_skip, chosen_start}
+use Rattle.std.proofs.Common.{◌<◌, ◌≤◌, length, sym, ◌∙◌, arith}
+use Rattle.chain_search.proofs.BitChoice.{chosen_all, chosen_full, chosen_push, chosen_skip, chosen_start}
 use Rattle.chain_search.proofs.bits.choose.Goals as goal
 
 pub loop-place-init : goal.loop-place-init

@@ -1,4 +1,4 @@
-use Rattle.std.proofs.Common.{◌≡◌, ◌+◌, ◌<◌, ◌+ℤ◌, ◌≤ℤ◌, pos, [], ◌∷◌, ◌++◌, List, Bool, true, false, Some, Ok, length, arith, vec_len, refl, sym, ◌∙◌, ap, subst, rules, w64, ℤ, FitsSigned, to_z, of_z}
+use Rattle.std.proofs.Common.{◌≡◌, ◌≤ℤ◌, [], Bool, Ok, arith, vec_len, ap, rules, w64, FitsSigned}
 use Rattle.std.proofs.lemmas.Int.{to_z-of_z}
 use Rattle.label_setter.specs.Chains.{source}
 use Rattle.chain_search.specs.declared.search.Outcome.{Outcome}

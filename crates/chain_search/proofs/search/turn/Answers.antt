@@ -1,9 +1,8 @@
-use Rattle.std.proofs.Common.{◌≡◌, ℕ, ◌+◌, ◌<◌, [], ◌∷◌, ◌++◌, List, Bool, true, false, Some, Ok, length, get_or, take, arith, refl, sym, ◌∙◌, ap, subst, rules, w64, ℤ, FitsSigned, to_z, of_z}
+use Rattle.std.proofs.Common.{◌≡◌, ℕ, ◌<◌, [], ◌∷◌, ◌++◌, List, Bool, true, Some, Ok, length, get_or, take, arith, sym, ◌∙◌, ap, subst, rules, w64, ℤ, FitsSigned, to_z, of_z}
 use Rattle.std.specs.Prelude.{slice_get}
 use Rattle.std.specs.List.{list_any}
 use Rattle.std.proofs.lemmas.Int.{to_z-of_z}
 use Rattle.std.proofs.lemmas.Option.{slice_get-get_or}
-use Rattle.chain_search.specs.declared.marks.Mark.{Mark}
 use Rattle.chain_search.specs.Marking.{KeepsMark, dispenses}
 use Rattle.chain_search.specs.Searches.{IsWithin, Spreads}
 use Rattle.chain_search.proofs.Hunting.{hunt_dispensed, hunt_ends, hunt_low, hunt_on, on_path_of}

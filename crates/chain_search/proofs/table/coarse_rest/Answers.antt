@@ -1,8 +1,8 @@
-use Rattle.std.proofs.Common.{◌≡◌, ◌+◌, ◌-◌, ◌*◌, ◌<◌, ◌≤◌, ◌++◌, [], ℕ, ℤ, pos, List, Option, Some, length, get_or, take, drop, arith, refl, sym, ◌∙◌, ap, subst}
+use Rattle.std.proofs.Common.{◌≡◌, ◌+◌, ◌-◌, ◌<◌, ◌++◌, [], ℕ, ℤ, List, Some, length, take, drop, arith, ◌∙◌, ap, subst}
 use Rattle.std.specs.Prelude.{slice_get}
 use Rattle.label_setter.specs.declared.graph.Arc.{Arc}
 use Rattle.chain_search.specs.Rows.{GoesBack, IsBetween}
-use Rattle.chain_search.proofs.TableRows.{Filled, filled_more, filled_start, rest_of_table, written}
+use Rattle.chain_search.proofs.TableRows.{filled_more, filled_start, rest_of_table, written}
 use Rattle.chain_search.proofs.table.coarse_rest.Goals as goal
 
 pub loop-back-init : goal.loop-back-init

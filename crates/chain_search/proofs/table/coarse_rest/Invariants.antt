@@ -1,5 +1,4 @@
-use Rattle.std.proofs.Common.{◌≡◌, ◌*◌, length}
-use Rattle.chain_search.specs.Rows.{IsBetween}
+use Rattle.std.proofs.Common.{◌≡◌, length}
 use Rattle.chain_search.proofs.TableRows.{Filled}
 use Rattle.chain_search.proofs.table.coarse_rest.Given as goal
 

@@ -1,7 +1,5 @@
-use Rattle.std.proofs.Common.{◌≡◌, ◌+◌, ◌-◌, ◌<◌, ℕ, Some, List}
-use Rattle.std.specs.Prelude.{slice_get}
-use Rattle.label_setter.specs.declared.graph.Arc.{Arc}
-use Rattle.chain_search.specs.Rows.{GoesBack, IsBetween}
+use Rattle.std.proofs.Common.{◌-◌}
+use Rattle.chain_search.specs.Rows.{IsBetween}
 use Rattle.chain_search.proofs.TableRows.{CoversFirst}
 use Rattle.chain_search.proofs.table.place_row.Given as goal
 

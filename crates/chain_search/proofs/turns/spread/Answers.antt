@@ -1,4 +1,4 @@
-use Rattle.std.proofs.Common.{◌≡◌, ◌+◌, ◌≤◌, List, length, get_or, arith, refl, sym, ◌∙◌, ap, subst}
+use Rattle.std.proofs.Common.{List, length, get_or, arith, refl, ◌∙◌, ap}
 use Rattle.std.proofs.lemmas.Option.{slice_get-get_or}
 use Rattle.label_setter.specs.declared.graph.Arc.{Arc}
 use Rattle.chain_search.proofs.Hunting.{comes, listed_read, listed_within, put_length, spread_last, spread_none, spreading_put, spreading_skip, spreading_start}

@@ -1,5 +1,5 @@
 use Rattle.std.proofs.Common.{◌%◌, refl}
-use Rattle.chain_search.proofs.Marked.{more_pushed, more_set}
+use Rattle.chain_search.proofs.Marked.{more_set}
 use Rattle.chain_search.proofs.marks.MarkRow.keep.Goals as goal
 
 pub returns : goal.returns

@@ -1,7 +1,6 @@
 use Rattle.std.proofs.Common.{◌≡◌, [], List, arith, ◌∙◌}
 use Rattle.std.proofs.lemmas.List.{length-map}
 use Rattle.std.proofs.lemmas.List.Elements.{All-map}
-use Rattle.chain_search.proofs.Marked.{keeps_row}
 use Rattle.chain_search.proofs.marks.Marks.new.Goals as goal
 
 pub returns-clause-count : goal.returns-clause-count

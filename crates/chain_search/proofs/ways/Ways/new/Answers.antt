@@ -1,7 +1,7 @@
-use Rattle.std.proofs.Common.{◌≡◌, List, length, get_or, map, arith, subst, sym, ap, ◌∙◌}
+use Rattle.std.proofs.Common.{List, length, get_or, arith, ap, ◌∙◌}
 use Rattle.std.proofs.lemmas.List.{length-set}
 use Rattle.label_setter.specs.declared.graph.Arc.{Arc}
-use Rattle.chain_search.proofs.LeavingArcs.{Listed, Listed-all, Grouped-start, Grouped-adds, ways_all}
+use Rattle.chain_search.proofs.LeavingArcs.{Grouped-start, Grouped-adds, ways_all}
 use Rattle.chain_search.proofs.ways.Ways.new.Goals as goal
 
 pub loop-number-init : goal.loop-number-init
