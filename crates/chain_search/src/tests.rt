@@ -1,0 +1,187 @@
+ghost use Rattle.std.specs.Prelude.{◌≡◌, ◌<◌, ◌≤ℤ◌, neg_ℤ, pos};
+
+use super::*;
+use duty_calendar::Memory;
+use label_lattice::{
+    Least, LeastStep, Mask, MaskEnd, MaskStep, Pair, Resource, Span, SpanEnd, SpanStep, Steps,
+};
+use label_setter::{Above, Graph};
+use std::alloc::Global;
+use std::marker::Brand;
+use std::sync::ledger::{Blank, Ledger};
+
+/// A way by two arcs, beside one arc of less gain and use.
+fn two_ways(alloc: Global) -> Result<Graph<Least>, Memory> {
+    let mut graph = Graph::new(alloc, 3, Least { value: 0 }, ())?;
+    graph.arc(0, 1, 3, LeastStep { add: 2, cap: 4 })?;
+    graph.arc(1, 2, 4, LeastStep { add: 2, cap: 4 })?;
+    graph.arc(0, 2, 5, LeastStep { add: 1, cap: 4 })?;
+    Ok(graph)
+}
+
+/// Two places of two hours each, to be taken or not, with room for three hours of which two are due.
+fn hours(alloc: Global, gain: i64) -> Result<Graph<Span>, Memory>
+    requires low { neg_ℤ (pos 10) ≤ℤ gain }
+    requires high { gain ≤ℤ pos 10 }
+{
+    let take = SpanStep {
+        down: 120,
+        up: 120,
+        cap: 180,
+    };
+    let pass = SpanStep {
+        down: 0,
+        up: 0,
+        cap: 180,
+    };
+    let mut graph = Graph::new(alloc, 3, Span { down: 0, up: 0 }, SpanEnd { low: 120 })?;
+    graph.arc(0, 1, gain, take)?;
+    graph.arc(0, 1, 0, pass)?;
+    graph.arc(1, 2, gain, take)?;
+    graph.arc(1, 2, 0, pass)?;
+    Ok(graph)
+}
+
+/// What bits weigh at the end: the sixth as much as is asked for.
+fn bits_end() -> MaskEnd {
+    let mut weights = [0; 64];
+    weights[2] = 3;
+    weights[5] = 10;
+    MaskEnd { weights, floor: 10 }
+}
+
+/// A way that clears the bits, and one that gains more and leaves them.
+fn wishes(alloc: Global) -> Result<Graph<Pair<Least, Mask>>, Memory> {
+    let start = Pair {
+        first: Least { value: 0 },
+        second: Mask { bits: 0b100100 },
+    };
+    let step = LeastStep { add: 1, cap: 2 };
+    let clear = MaskStep {
+        clear: 0b100000,
+        set: 0b100,
+    };
+    let leave = MaskStep { clear: 0, set: 0 };
+    let mut graph = Graph::new(alloc, 2, start, ((), bits_end()))?;
+    graph.arc(0, 1, -5, (step, clear))?;
+    graph.arc(0, 1, 2, (step, leave))?;
+    Ok(graph)
+}
+
+/// A search by the bounds of two views; nothing where one of them does not follow the graph.
+fn found_from<R: Resource, C: Coarse<R> + Drop, D: Coarse<R> + Drop, L: Ledger>(
+    alloc: Global,
+    graph: &Graph<R>,
+    views: (C, D),
+    over: i64,
+    limit: u64,
+    blank: Blank,
+) -> Result<Option<Answer>, Memory>
+    requires name { blank.name ≡ L.name }
+    requires parts { blank.parts ≡ L.parts }
+    requires some { 0 < blank.parts }
+{
+    let (first, second) = views;
+    if !follows(graph, &first) || !follows(graph, &second) {
+        return Ok(None);
+    }
+    let ways = Ways::new(alloc, graph)?;
+    let first = coarse_rest(alloc, graph, &ways, first)?;
+    let second = coarse_rest(alloc, graph, &ways, second)?;
+    let rest = least_rest(graph, first, second);
+    let above = Above { rest, over };
+    let mut steps: Steps<L> = Steps::new(blank);
+    let answer = find_above(alloc, graph, &ways, &above, limit, &mut steps)?;
+    Ok(Some(answer))
+}
+
+fn found<R: Resource, C: Coarse<R> + Drop, D: Coarse<R> + Drop>(
+    alloc: Global,
+    graph: &Graph<R>,
+    views: (C, D),
+    over: i64,
+    limit: u64,
+) -> Result<Option<Answer>, Memory> {
+    found_from::<R, C, D, Brand>(alloc, graph, views, over, limit, Blank::new(1))
+}
+
+fn is_chain(answer: &Option<Answer>, gain: i64, arcs: &[u32]) -> bool {
+    match answer {
+        Some(Answer::Chain(traced)) => traced.gain == gain && traced.arcs.as_slice() == arcs,
+        _ => false,
+    }
+}
+
+/// The answer, with none for want of memory.
+fn two_ways_over(alloc: Global, over: i64, limit: u64) -> Option<Answer> {
+    let graph = two_ways(alloc).ok()?;
+    found(alloc, &graph, (Blind, Blind), over, limit).ok()?
+}
+
+#[test]
+fn finds_a_chain_where_one_is_above(rt: HostRuntime) {
+    let alloc = rt.alloc();
+    for over in -3..9i64 {
+        let one = two_ways_over(alloc, over, 1);
+        let two = two_ways_over(alloc, over, 2);
+        let many = two_ways_over(alloc, over, 100);
+        if over < 7 {
+            assert!(rt; one == Some(Answer::Unknown) && two == Some(Answer::Unknown));
+            assert!(rt; is_chain(&many, 7, &[0, 1]));
+        } else {
+            assert!(rt; one == Some(Answer::Nothing) && two == Some(Answer::Nothing));
+            assert!(rt; many == Some(Answer::Nothing));
+        }
+    }
+}
+
+#[test]
+fn sees_how_much_room_is_left(rt: HostRuntime) {
+    let alloc = rt.alloc();
+    let graph = hours(alloc, 4).expect(&rt, "memory");
+    let room = Room { cap: 180, unit: 60 };
+    let seen = found(alloc, &graph, (room, Blind), 4, 0).expect(&rt, "memory");
+    assert!(rt; seen == Some(Answer::Nothing));
+    let blind = found(alloc, &graph, (Blind, Blind), 4, 0).expect(&rt, "memory");
+    assert!(rt; blind == Some(Answer::Unknown));
+    let below = found(alloc, &graph, (Blind, room), 3, 10).expect(&rt, "memory");
+    assert!(rt; is_chain(&below, 4, &[0, 3]) || is_chain(&below, 4, &[1, 2]));
+    let odd = Room { cap: 180, unit: 50 };
+    assert!(rt;
+        found(alloc, &graph, (odd, Blind), 3, 10)
+            .expect(&rt, "memory")
+            .is_none()
+    );
+}
+
+#[test]
+fn sees_how_much_is_due(rt: HostRuntime) {
+    let alloc = rt.alloc();
+    let graph = hours(alloc, -3).expect(&rt, "memory");
+    let due = Due { low: 120, unit: 60 };
+    let seen = found(alloc, &graph, (due, Blind), -3, 0).expect(&rt, "memory");
+    assert!(rt; seen == Some(Answer::Nothing));
+    let blind = found(alloc, &graph, (Blind, Blind), -3, 0).expect(&rt, "memory");
+    assert!(rt; blind == Some(Answer::Unknown));
+    let more = Due { low: 180, unit: 60 };
+    assert!(rt;
+        found(alloc, &graph, (more, Blind), -3, 0)
+            .expect(&rt, "memory")
+            .is_none()
+    );
+}
+
+#[test]
+fn sees_which_bits_are_to_be_cleared(rt: HostRuntime) {
+    let alloc = rt.alloc();
+    let graph = wishes(alloc).expect(&rt, "memory");
+    let bits = Bits::new(alloc, 0b100100, &bits_end()).expect(&rt, "memory");
+    let view = Second { view: bits };
+    let first = First { view: Blind };
+    let seen = found(alloc, &graph, (view, first), -5, 0).expect(&rt, "memory");
+    assert!(rt; seen == Some(Answer::Nothing));
+    let bits = Bits::new(alloc, u64::MAX, &bits_end()).expect(&rt, "memory");
+    let view = Second { view: bits };
+    let below = found(alloc, &graph, (view, Blind), -6, 10).expect(&rt, "memory");
+    assert!(rt; is_chain(&below, -5, &[0]));
+}
