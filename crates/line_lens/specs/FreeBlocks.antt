@@ -1,15 +1,14 @@
 -- The start of the last free block of 1,800 minutes, from item to item.
-use Rattle.std.specs.Prelude.{ℕ, zero, suc, ◌+◌, ◌-◌, max, Bool, false, not, nat_le, List, [], ◌∷◌, ◌++◌, Option, Some, None, if◌then◌else◌}
 use Rattle.std.specs.List.{list_any, range_with_len}
 use Rattle.std.specs.Option.{option_map_or}
-use Rattle.duty_calendar.specs.declared.event.Event.{Event}
+use Rattle.std.specs.Prelude.{ℕ, zero, suc, ◌+◌, ◌-◌, max, Bool, false, not, nat_le, List, [], ◌∷◌, Option, Some, None, if◌then◌else◌}
 use Rattle.duty_calendar.specs.Minutes.{is_duty_minute}
-use Rattle.label_lattice.specs.declared.values.LatestStep.{LatestStep}
+use Rattle.duty_calendar.specs.declared.event.Event.{Event}
+use Rattle.roster_model.specs.Spans.{first_report}
 use Rattle.roster_model.specs.declared.problem.Problem.{Problem}
 use Rattle.roster_model.specs.declared.proof.Lens.{Lens}
-use Rattle.roster_model.specs.Spans.{first_report}
-use Rattle.line_lens.specs.Clear.{base_of, duties_of}
-use Rattle.line_lens.specs.Items.{item_begins, item_events, by_item}
+use Rattle.line_lens.specs.Clear.{duties_of}
+use Rattle.line_lens.specs.Items.{by_item}
 
 -- whether the 1,800 minutes from `start` on have no duty
 unfoldable pub is_free_block : List Event → ℕ → Bool
@@ -40,13 +39,3 @@ item_least problem member lens =
     (λ p. least_start (duties_of p) (first_report p.duties) (duties_of p))
     (λ e. e.report - 10080)
     0
-
--- what the way from one item to another makes of the start of the last free block
-abbrev pub free_step : Problem → ℕ → Lens → (ℕ → ℕ) → ℕ → ℕ → LatestStep
-free_step problem member lens adds i j =
-    if lens.free30 then record {
-      renew = last_block (base_of problem member ++ item_events problem member lens (adds i))
-          (item_begins problem member lens (adds i)) (item_begins problem member lens (adds j));
-      least = item_least problem member lens (adds j);
-    }
-    else record { renew = None; least = 0 }

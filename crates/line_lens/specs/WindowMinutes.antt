@@ -1,14 +1,12 @@
 -- Minutes in the windows of a lens, from item to item.
 use Rattle.std.specs.Prelude.{ℕ, zero, suc, ◌+◌, ◌-◌, ◌*◌, List, [], ◌∷◌}
-use Rattle.duty_calendar.specs.declared.event.Event.{Event}
 use Rattle.duty_calendar.specs.Minutes.{count_between, is_flying_minute, is_period_minute}
-use Rattle.label_lattice.specs.declared.counters.UsageStep.{UsageStep}
+use Rattle.duty_calendar.specs.declared.event.Event.{Event}
 use Rattle.roster_model.specs.declared.problem.Problem.{Problem}
 use Rattle.roster_model.specs.declared.proof.Lens.{Lens}
 use Rattle.roster_model.specs.declared.proof.Window.{Window}
-use Rattle.roster_model.specs.declared.proof.WindowKind.{WindowKind}
 use Rattle.roster_model.specs.declared.proof.WindowKind.TheVariants.{Flight672, Duty672, Duty168, Flight365}
-use Rattle.line_lens.specs.Items.{item_events}
+use Rattle.roster_model.specs.declared.proof.WindowKind.{WindowKind}
 use Rattle.line_lens.specs.Clear.{base_of}
 
 -- how many minutes of the events count for the limit, in the window
@@ -36,10 +34,3 @@ spread (suc n) of (w ∷ ws) = of w ∷ spread n of ws
 -- what history and fixed events take of each window
 abbrev pub base_usage : ℕ → Problem → ℕ → Lens → List ℕ
 base_usage width problem member lens = spread width (window_minutes (base_of problem member)) lens.windows
-
--- what the way to an item adds
-abbrev pub usage_step : {N : ℕ} → Problem → ℕ → Lens → (ℕ → ℕ) → ℕ → ℕ → UsageStep N
-usage_step {N} problem member lens adds i j = record {
-  amounts = spread N (window_minutes (item_events problem member lens (adds j))) lens.windows;
-  caps = spread N (λ w. kind_limit w.kind) lens.windows;
-}
