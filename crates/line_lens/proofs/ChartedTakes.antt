@@ -1,5 +1,5 @@
 -- What a chart says of passing and taking is what the items of its places say.
-use Rattle.std.proofs.Common.{◌≡◌, ℕ, ℤ, ◌+◌, ◌-◌, ◌/◌, ◌^◌, ◌<◌, ◌≤◌, Bool, true, false, not, ◌&&◌, ◌||◌, ◌==◌, List, [], Option, Some, None, length, refl, ap, sym, ◌∙◌, subst, arith, inl, inr, ◌⊎◌}
+use Rattle.std.proofs.Common.{◌≡◌, ℕ, ℤ, ◌+◌, ◌-◌, ◌/◌, ◌<◌, ◌≤◌, Bool, true, false, not, ◌&&◌, ◌==◌, List, [], Option, Some, None, length, refl, ap, sym, ◌∙◌, subst, arith, inl, inr}
 use Rattle.std.specs.Prelude.{slice_get, slice_index_or, nat_lt, nat_le, if◌then◌else◌}
 use Rattle.std.specs.Int.{bit_at, bit_not, w32}
 use Rattle.std.specs.Int.RustNames.{bit_and, count_ones}
@@ -10,7 +10,6 @@ use Rattle.std.proofs.lemmas.Bool.Decides.{nat_tests}
 use Rattle.duty_calendar.specs.Calendar.{month_days}
 use Rattle.jiff_core.proofs.CalendarLemmas.{days_in_month_bounds}
 use Rattle.duty_calendar.specs.declared.event.Event.{Event}
-use Rattle.duty_calendar.specs.declared.interval.Interval.{Interval}
 use Rattle.duty_calendar.specs.declared.pairing.Pairing.{Pairing}
 use Rattle.duty_calendar.specs.Minutes.{is_touching}
 use Rattle.label_lattice.specs.declared.counters.UsageStep.{UsageStep}
@@ -23,24 +22,23 @@ use Rattle.label_setter.specs.declared.graph.Arc.{Arc}
 use Rattle.roster_model.specs.declared.problem.Problem.{Problem}
 use Rattle.roster_model.specs.declared.node.Decision.{Decision}
 use Rattle.roster_model.specs.declared.proof.Lens.{Lens}
-use Rattle.roster_model.specs.Spans.{first_report, last_release, pairing_span, event_span}
+use Rattle.roster_model.specs.Spans.{first_report, pairing_span, event_span}
 use Rattle.roster_model.specs.Weights.{weight_at}
 use Rattle.line_lens.specs.declared.chart.Chart.{Chart}
 use Rattle.line_lens.specs.declared.chart.Place.{Place}
 use Rattle.line_lens.specs.BusyDays.{is_fixed_busy}
-use Rattle.line_lens.specs.Charts.{of_place, no_bids, chart_may, chart_must, chart_near, chart_gain, chart_days, chart_pause, chart_day, chart_open, chart_busy_with, chart_daily, chart_take, IsPlace, IsChart, IsItemOrder}
+use Rattle.line_lens.specs.Charts.{of_place, no_bids, chart_may, chart_must, chart_near, chart_gain, chart_pause, chart_day, chart_open, chart_busy_with, chart_daily, chart_take, IsChart, IsItemOrder}
 use Rattle.line_lens.specs.DayMasks.{IsDayMask}
-use Rattle.line_lens.specs.FreeBlocks.{item_least}
+use Rattle.line_lens.specs.FreeBlocks.{item_least, base_block, own_block}
 use Rattle.line_lens.specs.Items.{visited_flights, item_count, item_begins, item_rests, item_span, may_visit_item, must_visit_item, is_base_open}
 use Rattle.line_lens.specs.Takes.{passes_by, takes_by, AreTakeArcs}
 use Rattle.line_lens.specs.TakeLabels.{TakeStepOf}
 use Rattle.line_lens.proofs.Apart.{may_visit, is_near}
 use Rattle.line_lens.proofs.ItemSteps.{added_days, take_step, pause_step, day_of, is_open_day, is_busy_with, daily_step}
-use Rattle.line_lens.specs.TakeSteps.{base_block, own_block}
 use Rattle.line_lens.specs.WindowMinutes.{spread}
 use Rattle.line_lens.proofs.Charted.{adds, clears, sets, items_long, may_same, must_same, near_same, gain_same, begins_same, of_some, days_same, PlacedAt, placed_at}
 use Rattle.line_lens.proofs.GraphOfLines.{may_within}
-use Rattle.line_lens.proofs.Ways.{taken_before, way_up}
+use Rattle.line_lens.proofs.Ways.{taken_before}
 
 -- an item begins where its span does
 begins_span : (problem : Problem) (member : ℕ) (lens : Lens) (item : ℕ) → item_begins problem member lens item ≡ (item_span problem member lens item).start

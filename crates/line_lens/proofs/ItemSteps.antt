@@ -17,11 +17,10 @@ use Rattle.roster_model.specs.declared.problem.Problem.{Problem}
 use Rattle.roster_model.specs.declared.proof.Lens.{Lens}
 use Rattle.line_lens.specs.BusyDays.{is_fixed_busy, month_count}
 use Rattle.line_lens.specs.Clear.{base_of}
-use Rattle.line_lens.specs.FreeBlocks.{last_block, item_least}
+use Rattle.line_lens.specs.FreeBlocks.{last_block, item_least, base_block, own_block}
 use Rattle.line_lens.specs.Items.{item_begins, item_events, item_span}
 use Rattle.line_lens.specs.LineLabels.{StepOf}
 use Rattle.line_lens.specs.TakeLabels.{TakeStepOf}
-use Rattle.line_lens.specs.TakeSteps.{base_block, own_block}
 use Rattle.line_lens.specs.WindowMinutes.{spread, window_minutes, kind_limit}
 
 -- the days that an item makes busy, where it comes straight after another

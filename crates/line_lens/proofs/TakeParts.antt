@@ -1,6 +1,6 @@
 -- A label completes what a chain takes exactly where the label of a line graph completes its stops.
-use Rattle.std.proofs.Common.{◌≡◌, ℕ, ℤ, ◌+◌, ◌-◌, ◌^◌, ◌<◌, ◌≤◌, Bool, true, false, List, [], ◌∷◌, ◌++◌, Option, Some, None, length, refl, ap, sym, ◌∙◌, subst, arith, inl, inr, ◌⊎◌}
-use Rattle.std.specs.Prelude.{sum_by, slice_get, slice_index_or, map, if◌then◌else◌}
+use Rattle.std.proofs.Common.{◌≡◌, ℕ, ℤ, ◌^◌, ◌<◌, ◌≤◌, Bool, true, false, List, ◌∷◌, Option, Some, None, length, refl, ap, sym, ◌∙◌, subst, inl, inr}
+use Rattle.std.specs.Prelude.{sum_by, slice_get, slice_index_or, map}
 use Rattle.std.specs.Option.{option_map_or}
 use Rattle.std.proofs.lemmas.Nat.Bits.{same_from_bits_below}
 use Rattle.std.proofs.lemmas.Option.{slice_get_past}
@@ -18,9 +18,7 @@ use Rattle.label_lattice.specs.declared.pauses.Pause.{Pause}
 use Rattle.label_lattice.specs.declared.pauses.PauseStep.{PauseStep}
 use Rattle.label_lattice.specs.declared.spans.SpanStep.{SpanStep}
 use Rattle.label_lattice.specs.declared.values.Latest.{Latest}
-use Rattle.label_lattice.specs.declared.values.LatestStep.{LatestStep}
 use Rattle.label_lattice.specs.declared.values.Least.{Least}
-use Rattle.label_lattice.specs.declared.values.LeastStep.{LeastStep}
 use Rattle.label_lattice.specs.Daily.{daily_extend}
 use Rattle.label_lattice.specs.Latest.{latest_extend}
 use Rattle.label_lattice.specs.Least.{least_extend}
@@ -37,18 +35,18 @@ use Rattle.roster_model.specs.Lenses.{floor_to, ceil_to}
 use Rattle.roster_model.specs.Timelines.{fixed_of}
 use Rattle.line_lens.specs.declared.masks.Mark.{Mark}
 use Rattle.line_lens.specs.declared.masks.Mark.TheVariants.{Clear, Set}
-use Rattle.line_lens.specs.BusyDays.{fixed_busy_days, month_count, is_fixed_busy}
+use Rattle.line_lens.specs.BusyDays.{fixed_busy_days}
 use Rattle.line_lens.specs.Clear.{base_of, duties_of}
 use Rattle.line_lens.specs.Items.{item_count, item_begins, item_rests, item_events}
-use Rattle.line_lens.specs.LineLabels.{LabelOf, StepOf, EndOf, label_extend, label_done, label_start, label_end}
+use Rattle.line_lens.specs.LineLabels.{LabelOf, EndOf, label_extend, label_done, label_start, label_end}
 use Rattle.line_lens.specs.Masks.{IsMask}
 use Rattle.line_lens.specs.Takes.{passes_by, takes_by, AreTakeArcs}
 use Rattle.line_lens.specs.TakeLabels.{TakeOf, TakeStepOf, take_extend, take_done, take_start}
 use Rattle.line_lens.proofs.Apart.{is_near}
-use Rattle.line_lens.proofs.ItemSteps.{day_step, credit_at, span_step, mask_step, free_step, label_step, take_step, pause_step, daily_step, usage_step}
-use Rattle.line_lens.proofs.TakenPlaces.{steps_by, taken_by, stops_by}
+use Rattle.line_lens.proofs.ItemSteps.{day_step, credit_at, free_step, label_step, take_step, pause_step, daily_step}
+use Rattle.line_lens.proofs.TakenPlaces.{taken_by, stops_by}
 use Rattle.line_lens.proofs.Walks.{run, along}
-use Rattle.line_lens.specs.WindowMinutes.{base_usage, spread, window_minutes, kind_limit}
+use Rattle.line_lens.specs.WindowMinutes.{spread, window_minutes, kind_limit}
 use Rattle.line_lens.proofs.Alike.{AreAlike}
 use Rattle.line_lens.proofs.Calm.{IsCalmSpan, IsCalmUsage, span_calms, mask_calms, usage_calms}
 use Rattle.line_lens.proofs.ChainPairs.{map_map, list_completes, list_first, list_second, still_chain}
@@ -58,7 +56,7 @@ use Rattle.line_lens.proofs.Dropping.{Calms, along_map, to_stops, from_stops}
 use Rattle.line_lens.proofs.MaskBits.{AreMarked, nothing_cleared, nothing_set}
 use Rattle.line_lens.proofs.PauseChain.{pauses_alike}
 use Rattle.line_lens.proofs.Taking.{IsPath}
-use Rattle.line_lens.proofs.Together.{PartsComplete, Whole, whole_from, parts_from}
+use Rattle.line_lens.proofs.Together.{whole_from, parts_from}
 use Rattle.line_lens.proofs.Visited.{IsPlaced}
 use Rattle.line_lens.proofs.Visits.{IsSorted}
 use Rattle.line_lens.proofs.WindowChain.{by_pairing}

@@ -27,12 +27,11 @@ use Rattle.line_lens.specs.BusyDays.{is_fixed_busy}
 use Rattle.line_lens.specs.Clear.{base_of}
 use Rattle.line_lens.specs.DayMasks.{IsDayMask}
 use Rattle.line_lens.specs.DutyTimes.{AreTimes}
-use Rattle.line_lens.specs.FreeBlocks.{last_block, item_least}
+use Rattle.line_lens.specs.FreeBlocks.{last_block, item_least, base_block, own_block}
 use Rattle.line_lens.specs.Items.{item_count, item_begins, item_rests, item_span, item_events, may_visit_item, must_visit_item, is_base_open}
 use Rattle.line_lens.specs.LineLabels.{StepOf}
 use Rattle.line_lens.specs.Masks.{IsMask}
 use Rattle.line_lens.specs.TakeLabels.{TakeStepOf}
-use Rattle.line_lens.specs.TakeSteps.{base_block, own_block}
 use Rattle.line_lens.specs.WindowMinutes.{window_minutes, kind_limit, spread}
 use Rattle.line_lens.specs.declared.chart.Chart.{Chart}
 use Rattle.line_lens.specs.declared.chart.Place.{Place}

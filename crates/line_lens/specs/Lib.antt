@@ -15,5 +15,4 @@ pub mod Charts
 pub mod Passes
 pub mod Takes
 pub mod Loose
-pub mod TakeSteps
 pub mod TakeLabels

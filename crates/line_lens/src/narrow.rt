@@ -59,7 +59,7 @@ fn is_elsewhere(goal: &Goal, member: u32, lens: &Lens) -> bool
 
 /// Whether the goal asks nothing of the bids that the lens tracks.
 pub fn asks_nothing(problem: &Problem, member: u32, goal: &Goal, lens: &Lens) -> bool
-    requires member { member < length problem.now.base.members }
+    requires member_in_range { member < length problem.now.base.members }
     requires goal { IsGoal problem.now goal.now }
     ensures asks { (result ≡ true) ↔ AsksNothing problem.now member goal.now lens.now }
 {
@@ -102,7 +102,7 @@ pub fn narrow_lens(
     goal: &Goal,
     lens: &Lens,
 ) -> Result<Lens, Memory>
-    requires member { member < length problem.now.base.members }
+    requires member_in_range { member < length problem.now.base.members }
     requires goal { IsGoal problem.now goal.now }
     ensures same { IfOk result (λ narrow. (node : List Decision) (line : List ℕ) → IsLensLine problem.now member goal.now node lens.now line ↔ IsLensLine problem.now member goal.now node narrow line) }
     ensures untracked { IfOk result (λ narrow. AsksNothing problem.now member goal.now lens.now → narrow.tracked ≡ 0) }

@@ -1,7 +1,6 @@
-use Rattle.std.proofs.Common.{◌≡◌, ◌+◌, ◌-◌, ◌*◌, ◌≤◌, ◌∙◌, ap, sym, subst, length, ℕ, List, Some, arith, map}
-use Rattle.std.specs.Prelude.{slice_get, slice_index_or}
+use Rattle.std.proofs.Common.{◌≡◌, ◌+◌, ◌*◌, ◌≤◌, ◌∙◌, ap, sym, subst, length, ℕ, List, arith, map}
+use Rattle.std.specs.Prelude.{slice_index_or}
 use Rattle.label_setter.specs.Chains.{GraphOf}
-use Rattle.label_setter.specs.declared.graph.Arc.{Arc}
 use Rattle.line_lens.specs.Charts.{IsItemOrder}
 use Rattle.line_lens.specs.LineGraphs.{added_by}
 use Rattle.line_lens.specs.TakeLabels.{TakeOf, TakeStepOf, TakeEndOf}
