@@ -145,6 +145,21 @@ fn usage_holds_each_counter_to_its_cap(rt: HostRuntime) {
 }
 
 #[test]
+fn usage_compares_every_counter(rt: HostRuntime) {
+    let start = Usage { counters: [9; 7] };
+    let last = Usage {
+        counters: [9, 9, 9, 9, 9, 9, 10],
+    };
+    let fourth = Usage {
+        counters: [9, 9, 9, 10, 9, 9, 9],
+    };
+    assert!(rt; is_below(start, start));
+    assert!(rt; is_below(start, last));
+    assert!(rt; !is_below(last, start));
+    assert!(rt; !is_below(fourth, start));
+}
+
+#[test]
 fn pair_asks_both_parts(rt: HostRuntime) {
     let start = Pair {
         first: Least { value: 0 },
@@ -167,6 +182,89 @@ fn pair_asks_both_parts(rt: HostRuntime) {
             second: Mask { bits: 0 }
         }
     );
+}
+
+fn rank_of<L: Lattice>(value: L) -> u64 {
+    value.rank()
+}
+
+#[test]
+fn pause_waits_for_the_end_of_work(rt: HostRuntime) {
+    let start = Pause { latest: 0, busy: 0 };
+    let works = PauseStep {
+        least: 0,
+        renew: 10,
+        busy: 30,
+        free: 20,
+    };
+    let rests = PauseStep {
+        least: 10,
+        renew: 0,
+        busy: 0,
+        free: 30,
+    };
+    assert_eq!(rt;
+        after_two(start, works, rests),
+        Some(Pause {
+            latest: 30,
+            busy: 0
+        })
+    );
+    assert_eq!(rt; after_two(start, rests, works), None);
+    assert!(rt; is_below(Pause { latest: 2, busy: 3 }, Pause { latest: 1, busy: 4 }));
+    assert_eq!(rt;
+        greatest_below(Pause { latest: 2, busy: 5 }, Pause { latest: 1, busy: 4 }),
+        Pause { latest: 2, busy: 4 }
+    );
+    assert!(rt; meets(start, ()));
+}
+
+#[test]
+fn daily_counts_a_day_once(rt: HostRuntime) {
+    let start = Daily {
+        count: 0,
+        today: false,
+    };
+    let first = DailyStep {
+        add: 2,
+        again: false,
+        keeps: false,
+        sets: true,
+        cap: 3,
+    };
+    let second = DailyStep {
+        add: 2,
+        again: true,
+        keeps: false,
+        sets: false,
+        cap: 3,
+    };
+    let three = Daily {
+        count: 3,
+        today: false,
+    };
+    assert_eq!(rt; after_two(start, first, second), Some(three));
+    assert_eq!(rt; after_two(start, first, first), None);
+    let busy = Daily {
+        count: 2,
+        today: true,
+    };
+    assert!(rt; is_below(busy, three));
+    assert_eq!(rt; greatest_below(three, busy), busy);
+    assert!(rt; meets(start, ()));
+}
+
+#[test]
+fn pair_ranks_its_first_part_first(rt: HostRuntime) {
+    let low = Pair {
+        first: Least { value: 1 },
+        second: Latest { value: 0 },
+    };
+    let high = Pair {
+        first: Least { value: 2 },
+        second: Latest { value: 9 },
+    };
+    assert!(rt; rank_of(low) < rank_of(high));
 }
 
 fn count_two<L: Ledger>(blank: Blank)

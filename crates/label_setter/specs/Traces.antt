@@ -1,5 +1,5 @@
 -- Chains by their arcs and by their places.
-use Rattle.std.specs.Prelude.{ℕ, List}
+use Rattle.std.specs.Prelude.{List}
 use Rattle.label_setter.specs.declared.graph.Arc.{Arc}
 use Rattle.label_setter.specs.declared.setter.Priced.{Priced}
 use Rattle.label_setter.specs.declared.traces.Traced.{Traced}

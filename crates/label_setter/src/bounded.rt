@@ -86,7 +86,8 @@ fn bound_of(most: i64, pass: u32) -> i64 {
     }
 }
 
-/// As `set_labels`, by passes over bounds that fall from the most that may be gained until the best chain is above one.
+/// As `trace_labels`, by passes over bounds that fall from the most that may be gained until the best chain is above one:
+/// five bounds, and at last none. It is fast where the best chain gains nearly as much as `rest` allows.
 pub fn set_labels_falling<R: Resource, B: Rest<R> + Drop, L: Ledger>(
     alloc: Global,
     graph: &Graph<R>,

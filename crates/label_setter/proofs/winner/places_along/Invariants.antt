@@ -1,4 +1,4 @@
-use Rattle.std.proofs.Common.{◌≡◌, ◌++◌, ◌∷◌, map, drop}
+use Rattle.std.proofs.Common.{◌≡◌, ◌++◌, map, drop}
 use Rattle.label_setter.specs.Chains.{end_of, places_of}
 use Rattle.label_setter.proofs.winner.places_along.Given as goal
 
