@@ -23,7 +23,8 @@ use Rattle.bid_language.specs.Keywords.{is_text}
 use Rattle.bid_language.specs.Words.{next, optional, finished}
 use Rattle.bid_language.specs.Values.{pairing_named}
 use Rattle.bid_language.specs.Lines.{Read, member_named, member_line, entry_of, line_of, with_entry, lines_from, lines_with, lines_of, empty_read, bids_in}
-use Rattle.bid_language.specs.Spelling.{name_of, bid_text, bid_lines, member_text, all_lines, is_spelt_wish, are_spelt}
+use Rattle.bid_language.specs.Spelling.{name_of, bid_text, bid_lines, member_text, all_lines}
+use Rattle.bid_language.proofs.Spelt.{is_spelt_wish, are_spelt}
 use Rattle.bid_language.proofs.BidWords.{wish_words, bid-spelt}
 use Rattle.bid_language.proofs.Rereading.{texts, Again, AreNamed, AreDays, again-bid, text-same, text-other}
 use Rattle.bid_language.proofs.TextAgain.{is_word, is_quiet, joined_words, joined-quiet, first-line, line-says}

@@ -8,6 +8,7 @@ pub mod OnlyGives
 pub mod ValidBids
 pub mod MonthDays
 pub mod BidWords
+pub mod Spelt
 pub mod Rereading
 pub mod TextAgain
 pub mod PlainWords

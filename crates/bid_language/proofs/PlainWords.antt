@@ -22,7 +22,8 @@ use Rattle.roster_model.specs.declared.bid.Wish.{Wish}
 use Rattle.roster_model.specs.declared.bid.Wish.TheVariants.{Fly, Avoid, Prefer, Off, CreditBelow, CreditAbove, DaysOff}
 use Rattle.roster_model.specs.declared.bid.Bid.{Bid}
 use Rattle.roster_model.specs.Valid.{is_test, is_filter, is_wish, IsBid}
-use Rattle.bid_language.specs.Spelling.{weekday_word, name_of, day_word, is_station, is_spelt_test, is_spelt_filter, is_spelt_wish}
+use Rattle.bid_language.specs.Spelling.{weekday_word, name_of, day_word}
+use Rattle.bid_language.proofs.Spelt.{is_station, is_spelt_test, is_spelt_filter, is_spelt_wish}
 use Rattle.bid_language.proofs.BidWords.{test_words, atom_words, more_words, filter_words, to_words, wish_word, wish_values, wish_words}
 use Rattle.bid_language.proofs.DaysAgain.{month_parts}
 use Rattle.bid_language.proofs.TextAgain.{is_plain, is_word}

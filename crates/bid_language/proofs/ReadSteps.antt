@@ -3,7 +3,9 @@ use Rattle.std.proofs.Common.{◌≡◌, ◌≢◌, ℕ, ◌+◌, List, [], ◌�
 use Rattle.field_text.specs.declared.token.Token.{Token}
 use Rattle.field_text.specs.declared.token.TokenFault.{TokenFault}
 use Rattle.field_text.specs.declared.token.TokenFault.TheVariants as token
-use Rattle.field_text.specs.Tokens.{read_tokens, TokensGive}
+use Rattle.field_text.specs.Gives.{Gives}
+use Rattle.field_text.specs.Tokens.{read_tokens}
+use Rattle.field_text.specs.Tokens as tokens
 use Rattle.duty_calendar.specs.declared.member.Base.{Base}
 use Rattle.bid_language.specs.declared.fault.BidCode.{BidCode}
 use Rattle.bid_language.specs.declared.fault.BidCode.TheVariants as code
@@ -44,7 +46,7 @@ line-stop base n read text line tokens (stop.Fault f) fault before after b t w h
     rw (e, ← b, t, ← w, h) (fails-at n f.column f.code _ (faults-entry_of base read before f h) refl)
 
 pub line-token : (base : Base) (n : ℕ) (read : Read) (text line : List ℕ) (fault : BidFault) (t : TokenFault)
-    → line ≡ before_comment text → fault ≡ token_fault_at n t → TokensGive (Err t) (read_tokens line)
+    → line ≡ before_comment text → fault ≡ token_fault_at n t → Gives tokens.told (λ (found : List Token). found) (Err t) (read_tokens line)
     → FailsBy fault.code fault (line_of base n read text)
 unfolding line_of
 line-token base n read text line fault token.NoMemory b e h = rw e (refl, refl)

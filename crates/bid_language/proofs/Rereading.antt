@@ -39,7 +39,8 @@ use Rattle.bid_language.specs.Words.{Spot, Reader, ◌>>=◌, done, or_wrong, ne
 use Rattle.bid_language.specs.Values.{value_of, value_in, number, clock, minutes, pairing, pairing_named, station, station_of, weekday, side, bound}
 use Rattle.bid_language.specs.Days.{day_in, day, not_before, later_day, last_day}
 use Rattle.bid_language.specs.Grammar.{report_test, release_test, test_of, test_from, atom_from, atom, follows, joined, atoms, filter, credit_wish, wish_of, wish, weight, room, bid}
-use Rattle.bid_language.specs.Spelling.{weekday_word, name_of, day_word, is_station, is_spelt_test, is_spelt_filter, is_spelt_wish}
+use Rattle.bid_language.specs.Spelling.{weekday_word, name_of, day_word}
+use Rattle.bid_language.proofs.Spelt.{is_station, is_spelt_test, is_spelt_filter, is_spelt_wish}
 use Rattle.bid_language.proofs.BidWords.{test_word, test_values, test_words, atom_words, filter_words, to_words, wish_word, wish_values, wish_words}
 
 abbrev pub texts : List Spot → List (List ℕ)

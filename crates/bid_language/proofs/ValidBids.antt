@@ -21,7 +21,8 @@ use Rattle.bid_language.specs.declared.sheet.Entry.TheVariants as entry
 use Rattle.bid_language.specs.Keywords.{is_text}
 use Rattle.bid_language.specs.Words.{Spot, Rest, optional, finished, rest_of}
 use Rattle.bid_language.specs.Lines.{Read, known, member_named, member_line, bid_line, entry_from, entry_of, value_of, entry_in, with_entry, at_line, before_comment, line_of, bind, lines_from, lines_of, empty_read, bids_in}
-use Rattle.bid_language.specs.Sheets.{Gives}
+use Rattle.field_text.specs.Gives.{GivesOr}
+use Rattle.bid_language.specs.Sheets.{told, IsNowhere}
 use Rattle.bid_language.specs.Grammar.{bid}
 use Rattle.bid_language.proofs.OnlyGives.{Only, Known, only-known, only-then, only-next, only-done, only-wrong, only-if, IsNext, only-bid}
 
@@ -119,6 +120,6 @@ bids-valid base text bids month f = by_read (lines_from base 1 (empty_read base.
     by_read (Err fault) g h = cc
 
 -- what a reader returned that gives them
-pub gives-valid : (base : Base) (text : List ℕ) (result : Result (List (List Bid)) BidFault) → IsBase base → Gives (λ bids. bids) result (bids_in base text) → IfOk result (IsValid base)
+pub gives-valid : (base : Base) (text : List ℕ) (result : Result (List (List Bid)) BidFault) → IsBase base → GivesOr told IsNowhere (λ bids. bids) result (bids_in base text) → IfOk result (IsValid base)
 gives-valid base text (Ok bids) month g = bids-valid base text bids month g
 gives-valid base text (Err fault) month g = tt

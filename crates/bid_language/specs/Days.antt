@@ -40,7 +40,8 @@ later_day h first = do
 
 abbrev pub last_day_of : Horizon → ℕ → Option Spot → Reader ℕ
 last_day_of h first None = done first
-last_day_of h first (Some s) = if is_text s.text (codes "to") then later_day h first else wrong s (code.Expected word.To)
+last_day_of h first (Some s) =
+    if is_text s.text (codes "to") then later_day h first else wrong s (code.Expected word.To)
 
 -- the last day of a stretch: the first one, where no other is named
 unfoldable pub last_day : Horizon → ℕ → Reader ℕ

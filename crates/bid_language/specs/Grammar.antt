@@ -95,7 +95,8 @@ too_many = do
 -- whether another atom follows
 abbrev pub follows_of : Option Spot → Reader Bool
 follows_of None = done false
-follows_of (Some s) = if is_text s.text (codes "and") then done true else wrong s (code.Expected word.EndOfLine)
+follows_of (Some s) =
+    if is_text s.text (codes "and") then done true else wrong s (code.Expected word.EndOfLine)
 
 unfoldable pub follows : Reader Bool
 follows = do
@@ -165,7 +166,8 @@ weight s = weight_of s (number_field s.text)
 
 -- a member may have no more bids
 abbrev pub room : ℕ → Reader (Unit {0})
-room count rest = if nat_lt count 64 then Ok (tt, rest) else Err (record { column = 1; code = code.TooMany })
+room count rest =
+    if nat_lt count 64 then Ok (tt, rest) else Err (record { column = 1; code = code.TooMany })
 
 -- the bid whose weight is this token, of a member who has so many already
 unfoldable pub bid : Base → ℕ → Spot → Reader Bid

@@ -37,10 +37,12 @@ test_kind_of text =
     (if is_text text (codes "pairing") then Some test.Pairing else None)))))))
 
 abbrev pub side_of : List ℕ → Option Side
-side_of text = if is_text text (codes "before") then Some Before else (if is_text text (codes "after") then Some After else None)
+side_of text = if is_text text (codes "before") then Some Before
+    else (if is_text text (codes "after") then Some After else None)
 
 abbrev pub bound_of : List ℕ → Option Bound
-bound_of text = if is_text text (codes "below") then Some Below else (if is_text text (codes "above") then Some Above else None)
+bound_of text = if is_text text (codes "below") then Some Below
+    else (if is_text text (codes "above") then Some Above else None)
 
 abbrev pub weekday_of : List ℕ → Option Weekday
 weekday_of text =

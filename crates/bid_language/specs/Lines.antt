@@ -33,7 +33,8 @@ last_line (b ∷ bs) = (b ∷ bs) ∷ []
 -- a line feed, or a carriage return and a line feed.
 unfoldable pub lines_with : List ℕ → List ℕ → List (List ℕ)
 lines_with front [] = last_line front
-lines_with front (b ∷ bs) = if b == 10 then without_return front ∷ lines_with [] bs else lines_with (front ++ b ∷ []) bs
+lines_with front (b ∷ bs) =
+    if b == 10 then without_return front ∷ lines_with [] bs else lines_with (front ++ b ∷ []) bs
 
 abbrev pub lines_of : List ℕ → List (List ℕ)
 lines_of text = lines_with [] text
@@ -43,7 +44,8 @@ unfoldable pub before_comment : List ℕ → List ℕ
 before_comment [] = []
 before_comment (b ∷ bs) = if b == 35 then [] else b ∷ before_comment bs
 
--- What was read so far: whose bids the next line has, which members had their line, and the bids of each.
+-- What was read so far: whose bids the next line has, which members had their line, and the bids of
+-- each.
 pub record Read : Type 0 where
   pub current : Option ℕ
   pub seen : List Bool
@@ -53,7 +55,8 @@ abbrev pub member_named : List Member → List ℕ → Option ℕ
 member_named members text = position (λ m. is_text m.name text) members
 
 abbrev pub known : Spot → Option ℕ → Reader ℕ
-known s found = if is_name s.text then or_wrong s code.UnknownMember found else wrong s (code.Expected word.Name)
+known s found = if is_name s.text then or_wrong s code.UnknownMember found
+    else wrong s (code.Expected word.Name)
 
 -- the member of this number, unless it had its line
 abbrev pub unseen : Spot → List Bool → ℕ → Reader Entry
@@ -75,7 +78,8 @@ bid_line base read s (Some m) = do
 
 abbrev pub entry_from : Base → Read → Option Spot → Reader Entry
 entry_from base read None = done entry.Nothing
-entry_from base read (Some s) = if is_text s.text (codes "member") then member_line base read else bid_line base read s read.current
+entry_from base read (Some s) = if is_text s.text (codes "member") then member_line base read
+    else bid_line base read s read.current
 
 -- what a line says: nothing, whose bids follow, or a bid
 unfoldable pub entry_of : Base → Read → Reader Entry
@@ -96,8 +100,10 @@ entry_in base read line (Err NoMemory) = Err (record { column = 0; code = code.N
 -- what was read, with an entry
 abbrev pub with_entry : Read → Entry → Read
 with_entry read entry.Nothing = read
-with_entry read (entry.Member m) = record { current = Some m; seen = slice_set read.seen m true; lists = read.lists }
-with_entry read (entry.Bid m b) = record { current = read.current; seen = read.seen; lists = slice_set read.lists m (slice_index_or read.lists m [] ++ b ∷ []) }
+with_entry read (entry.Member m) =
+    record { current = Some m; seen = slice_set read.seen m true; lists = read.lists }
+with_entry read (entry.Bid m b) =
+    record read { lists = slice_set read.lists m (slice_index_or read.lists m [] ++ b ∷ []) }
 
 abbrev pub at_line : ℕ → Result Entry LineFault → Result Entry BidFault
 at_line n (Ok x) = Ok x
@@ -105,7 +111,8 @@ at_line n (Err e) = Err (record { line = n; column = e.column; code = e.code })
 
 -- a line, with its number
 unfoldable pub line_of : Base → ℕ → Read → List ℕ → Result Entry BidFault
-line_of base n read text = let line = before_comment text in at_line n (entry_in base read line (read_tokens line))
+line_of base n read text =
+    let line = before_comment text in at_line n (entry_in base read line (read_tokens line))
 
 abbrev pub bind : {A B : Type 0} → Result A BidFault → (A → Result B BidFault) → Result B BidFault
 bind (Ok x) f = f x
@@ -114,11 +121,14 @@ bind (Err e) f = Err e
 -- the lines from number n on
 unfoldable pub lines_from : Base → ℕ → Read → List (List ℕ) → Result Read BidFault
 lines_from base n read [] = Ok read
-lines_from base n read (l ∷ ls) = bind (line_of base n read l) (λ e. lines_from base (n + 1) (with_entry read e) ls)
+lines_from base n read (l ∷ ls) =
+    bind (line_of base n read l) (λ e. lines_from base (n + 1) (with_entry read e) ls)
 
 -- no member has bids yet
 abbrev pub empty_read : List Member → Read
-empty_read members = record { current = None; seen = map (λ m. false) members; lists = map (λ m. []) members }
+empty_read members =
+    record { current = None; seen = map (λ m. false) members; lists = map (λ m. []) members }
 
 abbrev pub bids_in : Base → List ℕ → Result (List (List Bid)) BidFault
-bids_in base text = bind (lines_from base 1 (empty_read base.members) (lines_of text)) (λ read. Ok read.lists)
+bids_in base text =
+    bind (lines_from base 1 (empty_read base.members) (lines_of text)) (λ read. Ok read.lists)

@@ -1,5 +1,5 @@
 -- The one spelling of bids: words with one space between, and lines that end with a line feed.
-use Rattle.std.specs.Prelude.{ℕ, ◌-◌, Bool, true, ◌&&◌, nat_le, length, ◌==◌, List, [], ◌∷◌, ◌++◌, codes, slice_get, unsigned_abs, if◌then◌else◌}
+use Rattle.std.specs.Prelude.{ℕ, ◌-◌, Bool, true, ◌==◌, List, [], ◌∷◌, ◌++◌, codes, slice_get, unsigned_abs, if◌then◌else◌}
 use Rattle.std.specs.List.{flat_map, list_all}
 use Rattle.std.specs.Option.{option_map_or}
 use Rattle.duty_calendar.specs.declared.horizon.Horizon.{Horizon}
@@ -8,7 +8,7 @@ use Rattle.duty_calendar.specs.declared.member.Member.{Member}
 use Rattle.duty_calendar.specs.declared.pairing.Pairing.{Pairing}
 use Rattle.duty_calendar.specs.declared.weekday.Weekday.{Weekday}
 use Rattle.duty_calendar.specs.declared.weekday.Weekday.TheVariants.{Mon, Tue, Wed, Thu, Fri, Sat, Sun}
-use Rattle.duty_calendar.specs.Forms.{is_name, are_capitals}
+use Rattle.duty_calendar.specs.Forms.{is_station_code}
 use Rattle.field_text.specs.Spelling.{number_text, minutes_text, clock_text, day_text}
 use Rattle.roster_model.specs.declared.bid.Test.{Test}
 use Rattle.roster_model.specs.declared.bid.Test.TheVariants.{Layover, Departs, Arrives, ReportBefore, ReportAfter, ReleaseBefore, ReleaseAfter, Days, OnWeekday, Is}
@@ -50,7 +50,8 @@ test_text pairings (OnWeekday w) = codes "weekday " ++ weekday_word w
 test_text pairings (Is p) = codes "pairing " ++ name_of pairings p
 
 abbrev pub atom_text : List Pairing → Atom → List ℕ
-atom_text pairings a = if a.negated then codes "not " ++ test_text pairings a.test else test_text pairings a.test
+atom_text pairings a =
+    if a.negated then codes "not " ++ test_text pairings a.test else test_text pairings a.test
 
 -- atoms behind another
 abbrev pub more_text : List Pairing → List Atom → List ℕ
@@ -68,7 +69,8 @@ abbrev pub wish_text : Base → Wish → List ℕ
 wish_text base (Fly p) = codes "fly " ++ name_of base.pairings p
 wish_text base (Avoid f) = codes "avoid " ++ filter_text base.pairings f
 wish_text base (Prefer n f) = (codes "prefer " ++ number_text n) ++ 32 ∷ filter_text base.pairings f
-wish_text base (Off first last) = (codes "off " ++ day_word base.rules.horizon first) ++ to_text base.rules.horizon first last
+wish_text base (Off first last) =
+    (codes "off " ++ day_word base.rules.horizon first) ++ to_text base.rules.horizon first last
 wish_text base (CreditBelow m) = codes "credit below " ++ minutes_text m
 wish_text base (CreditAbove m) = codes "credit above " ++ minutes_text m
 wish_text base (DaysOff n) = codes "daysoff " ++ number_text n
@@ -79,7 +81,8 @@ bid_text base b = number_text b.weight ++ 32 ∷ wish_text base b.wish
 
 -- the text of a problem's bid
 abbrev pub text_of : Problem → BidRef → List ℕ
-text_of problem b = option_map_or (bid_text problem.base) (slice_get (bids_of problem b.member) b.bid) []
+text_of problem b =
+    option_map_or (bid_text problem.base) (slice_get (bids_of problem b.member) b.bid) []
 
 -- the lines of bids, each ended by a line feed
 abbrev pub bid_lines : Base → List Bid → List ℕ
@@ -102,41 +105,30 @@ all_lines base (m ∷ ms) (bs ∷ lists) = member_lines base m bs ++ all_lines b
 abbrev pub bids_text : Problem → List ℕ
 bids_text problem = all_lines problem.base problem.base.members problem.bids
 
--- three capital letters
-abbrev pub is_station : List ℕ → Bool
-is_station s = nat_le (length s) 3 && nat_le 3 (length s) && are_capitals s
+-- whether each station that a bid speaks of has the form of a station's code
+abbrev pub is_coded_test : Test → Bool
+is_coded_test (Layover s) = is_station_code s
+is_coded_test (Departs s) = is_station_code s
+is_coded_test (Arrives s) = is_station_code s
+is_coded_test (ReportBefore c) = true
+is_coded_test (ReportAfter c) = true
+is_coded_test (ReleaseBefore c) = true
+is_coded_test (ReleaseAfter c) = true
+is_coded_test (Days n) = true
+is_coded_test (OnWeekday w) = true
+is_coded_test (Is p) = true
 
--- whether the names and stations that a bid speaks of have their forms
-abbrev pub is_spelt_test : List Pairing → Test → Bool
-is_spelt_test pairings (Layover s) = is_station s
-is_spelt_test pairings (Departs s) = is_station s
-is_spelt_test pairings (Arrives s) = is_station s
-is_spelt_test pairings (ReportBefore c) = true
-is_spelt_test pairings (ReportAfter c) = true
-is_spelt_test pairings (ReleaseBefore c) = true
-is_spelt_test pairings (ReleaseAfter c) = true
-is_spelt_test pairings (Days n) = true
-is_spelt_test pairings (OnWeekday w) = true
-is_spelt_test pairings (Is p) = is_name (name_of pairings p)
+abbrev pub is_coded_filter : List Atom → Bool
+is_coded_filter atoms = list_all (λ a. is_coded_test a.test) atoms
 
-abbrev pub is_spelt_filter : List Pairing → List Atom → Bool
-is_spelt_filter pairings atoms = list_all (λ a. is_spelt_test pairings a.test) atoms
+abbrev pub is_coded_wish : Wish → Bool
+is_coded_wish (Fly p) = true
+is_coded_wish (Avoid f) = is_coded_filter f
+is_coded_wish (Prefer n f) = is_coded_filter f
+is_coded_wish (Off first last) = true
+is_coded_wish (CreditBelow m) = true
+is_coded_wish (CreditAbove m) = true
+is_coded_wish (DaysOff n) = true
 
-abbrev pub is_spelt_wish : Base → Wish → Bool
-is_spelt_wish base (Fly p) = is_name (name_of base.pairings p)
-is_spelt_wish base (Avoid f) = is_spelt_filter base.pairings f
-is_spelt_wish base (Prefer n f) = is_spelt_filter base.pairings f
-is_spelt_wish base (Off first last) = true
-is_spelt_wish base (CreditBelow m) = true
-is_spelt_wish base (CreditAbove m) = true
-is_spelt_wish base (DaysOff n) = true
-
--- the same of a member with these bids, and of all members
-abbrev pub is_spelt_list : Base → Member → List Bid → Bool
-is_spelt_list base m [] = true
-is_spelt_list base m (b ∷ bs) = is_name m.name && list_all (λ x. is_spelt_wish base x.wish) (b ∷ bs)
-
-abbrev pub are_spelt : Base → List Member → List (List Bid) → Bool
-are_spelt base [] lists = true
-are_spelt base (m ∷ ms) [] = true
-are_spelt base (m ∷ ms) (bs ∷ lists) = is_spelt_list base m bs && are_spelt base ms lists
+abbrev pub are_coded : List (List Bid) → Bool
+are_coded lists = list_all (λ bids. list_all (λ b. is_coded_wish b.wish) bids) lists

@@ -43,11 +43,13 @@ pairing_named pairings text = position (λ p. is_text p.name text) pairings
 unfoldable pub pairing : List Pairing → Reader ℕ
 pairing pairings = do
   s ← next word.Name
-  if is_name s.text then or_wrong s code.UnknownPairing (pairing_named pairings s.text) else wrong s (code.Expected word.Name)
+  if is_name s.text then or_wrong s code.UnknownPairing (pairing_named pairings s.text)
+      else wrong s (code.Expected word.Name)
 
 -- three capitals
 abbrev pub station_of : List ℕ → Option (List ℕ)
-station_of text = if nat_le (length text) 3 && nat_le 3 (length text) && are_capitals text then Some text else None
+station_of text = if nat_le (length text) 3 && nat_le 3 (length text) && are_capitals text
+    then Some text else None
 
 unfoldable pub station : Reader (List ℕ)
 station = do

@@ -1,6 +1,7 @@
 -- What stands on a line, and readers that take it token by token.
-use Rattle.std.specs.Prelude.{◌≡◌, ℕ, ◌+◌, Bool, List, [], ◌∷◌, length, map, slice_range, Result, Ok, Err, Option, Some, None}
+use Rattle.std.specs.Prelude.{ℕ, ◌+◌, Bool, List, [], ◌∷◌, length, map, slice_range, Result, Ok, Err, Option, Some, None}
 use Rattle.field_text.specs.declared.token.Token.{Token}
+use Rattle.field_text.specs.Gives.{Gives}
 use Rattle.field_text.specs.Tokens.{lie_within}
 use Rattle.bid_language.specs.declared.fault.Word.{Word}
 use Rattle.bid_language.specs.declared.fault.Word.TheVariants.{EndOfLine}
@@ -33,7 +34,8 @@ are_within line tokens = lie_within (length line) tokens
 abbrev pub Reader : Type 0 → Type 0
 Reader A = Rest → Result (A × Rest) LineFault
 
-abbrev pub and_then : {A B : Type 0} → Result (A × Rest) LineFault → (A → Reader B) → Result (B × Rest) LineFault
+abbrev pub and_then : {A B : Type 0} → Result (A × Rest) LineFault → (A → Reader B)
+    → Result (B × Rest) LineFault
 and_then (Ok x) f = f x.0 x.1
 and_then (Err e) f = Err e
 
@@ -69,11 +71,14 @@ abbrev pub or_wrong : {A : Type 0} → Spot → BidCode → Option A → Reader 
 or_wrong spot c (Some x) = done x
 or_wrong spot c None = wrong spot c
 
--- What a function returned, seen by view, and what it left of the line, are what the reader gives, unless memory ran out.
+-- the fault that an end of reading tells, unless memory ran out
+abbrev pub told : Stop → Option LineFault
+told stop.NoMemory = None
+told (stop.Fault f) = Some f
+
+-- what a function returned, and what it left of the line, are what the reader gives
 abbrev pub ReadsAs : {X Y : Type 0} → (X → Y) → Result X Stop → Reader Y → Rest → Rest → Type 0
-ReadsAs view (Ok x) read before after = read before ≡ Ok (view x, after)
-ReadsAs view (Err stop.NoMemory) read before after = Unit {0}
-ReadsAs view (Err (stop.Fault f)) read before after = read before ≡ Err f
+ReadsAs view result read before after = Gives told (λ x. (view x, after)) result (read before)
 
 abbrev pub Reads : {X : Type 0} → Result X Stop → Reader X → Rest → Rest → Type 0
 Reads result read before after = ReadsAs (λ x. x) result read before after

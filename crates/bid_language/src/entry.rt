@@ -17,7 +17,9 @@ use std::alloc::Global;
 /// The member whom a token names.
 fn known(spot: &Spot, found: Option<usize>, words: &mut Words) -> Result<u32, Stop>
     requires small { ForSome found (λ m. m < 2 ^ 32) }
-    ensures reads { Reads result (known (record { column = spot.now.column; text = spot.now.text.now }) found) words.old words.new }
+    ensures reads { Reads result
+        (known (record { column = spot.now.column; text = spot.now.text.now }) found)
+        words.old words.new }
 {
     if Name::new(spot.text).is_none() {
         return Err(spot.wrong(BidCode::Expected(Word::Name)));
@@ -31,7 +33,9 @@ fn known(spot: &Spot, found: Option<usize>, words: &mut Words) -> Result<u32, St
 /// The member of this number, unless it had its line.
 fn unseen(spot: &Spot, seen: &[bool], m: u32, words: &mut Words) -> Result<Entry, Stop>
     requires known { m < length seen.now }
-    ensures reads { Reads result (unseen (record { column = spot.now.column; text = spot.now.text.now }) seen.now m) words.old words.new }
+    ensures reads { Reads result (unseen
+        (record { column = spot.now.column; text = spot.now.text.now }) seen.now m)
+        words.old words.new }
     ensures within { IfOk result (IsWithin (length seen.now)) }
 {
     if seen[m as usize] {
@@ -67,7 +71,9 @@ fn bid_line(
     words: &mut Words,
 ) -> Result<Entry, Stop>
     requires few { length base.now.pairings < 2 ^ 32 }
-    ensures reads { Reads result (bid_line base.now (read_of sheet.now) (record { column = spot.now.column; text = spot.now.text.now }) sheet.now.current) words.old words.new }
+    ensures reads { Reads result (bid_line base.now (read_of sheet.now)
+        (record { column = spot.now.column; text = spot.now.text.now }) sheet.now.current)
+        words.old words.new }
     ensures within { IfOk result (IsWithin (vec_len sheet.now.lists)) }
 {
     match sheet.current {

@@ -60,7 +60,8 @@ fn test_of(pairings: &[Pairing], kind: TestKind, words: &mut Words) -> Result<Te
 #[tactic(auto, unfolding(crate::specs::Grammar::test_from))]
 fn test_from(pairings: &[Pairing], spot: &Spot, words: &mut Words) -> Result<Test, Stop>
     requires few { length pairings.now < 2 ^ 32 }
-    ensures reads { Reads result (test_from pairings.now (record { column = spot.now.column; text = spot.now.text.now })) words.old words.new }
+    ensures reads { Reads result (test_from pairings.now
+        (record { column = spot.now.column; text = spot.now.text.now })) words.old words.new }
 {
     match test_kind_of(spot.text) {
         Some(kind) => test_of(pairings, kind, words),
@@ -125,8 +126,9 @@ fn follows(words: &mut Words) -> Result<bool, Stop>
 
 /// Adds an atom at the end.
 fn add(atoms: &mut Filter, negated: bool, test: Test) -> Result<(), Stop>
-    ensures ok { OnOk result (atoms.new ≡ atoms.old ++ record { negated = negated; test = test } ∷ []) }
-    ensures err { IfErr result (λ e. e ≡ NoMemory) }
+    ensures ok { OnOk result (atoms.new ≡ atoms.old ++ record { negated = negated; test = test }
+        ∷ []) }
+    ensures fault { IfErr result (λ e. e ≡ NoMemory) }
 {
     if atoms.push(Atom { negated, test }).is_err() {
         return Err(Stop::NoMemory);

@@ -19,3 +19,6 @@ mod writing;
 pub use fault::{BidCode, BidFault, Word};
 pub use reading::read_bids;
 pub use text::{print_bids, put_bid};
+
+#[cfg(test)]
+mod tests;

@@ -2,14 +2,14 @@
 ghost use Rattle.std.specs.Prelude.{◌≡◌, ◌≤◌, ◌<◌, ◌^◌, ◌+◌, ◌++◌, ◌∷◌, [], length, vec_len, slice_set, slice_index_or, true, Ok, Err, IfOk, IfErr, OnOk, MatchResult};
 ghost use Rattle.std.specs.Str.{IsAscii};
 ghost use Rattle.duty_calendar.specs.Checks.{IsBase};
+ghost use Rattle.field_text.specs.Gives.{GivesOr};
 ghost use Rattle.field_text.specs.Sizes.{longest};
-ghost use Rattle.field_text.specs.Tokens.{read_tokens, TokensGive};
-ghost use Rattle.field_text.specs.declared.token.TokenFault.{TokenFault as Fault};
+ghost use Rattle.field_text.specs.Tokens.{read_tokens};
 ghost use Rattle.roster_model.specs.Valid.{IsValid};
 ghost use Rattle.bid_language.specs.declared.fault.BidCode.TheVariants.{NoMemory};
 ghost use Rattle.bid_language.specs.Words.{are_within};
 ghost use Rattle.bid_language.specs.Lines.{line_of, with_entry, lines_from, lines_of, empty_read, bids_in};
-ghost use Rattle.bid_language.specs.Sheets.{fault_at, token_fault_at, read_of, IsWithin, Gives};
+ghost use Rattle.bid_language.specs.Sheets.{fault_at, token_fault_at, read_of, told, IsNowhere, IsTokenFault, IsWithin};
 
 use crate::entry::entry_of;
 use crate::fault::{BidCode, BidFault, Stop};
@@ -48,7 +48,8 @@ fn no_memory() -> BidFault
 /// The tokens of a line.
 fn tokens_of(alloc: Global, number: u32, line: &[u8]) -> Result<List<Token>, BidFault>
     requires short { length line.now ≤ longest }
-    ensures gives { MatchResult result (λ ts. read_tokens line.now ≡ Ok ts) (λ e. (t : Fault) × (e ≡ token_fault_at number t) × TokensGive (Err t) (read_tokens line.now)) }
+    ensures value { MatchResult result (λ ts. read_tokens line.now ≡ Ok ts)
+        (IsTokenFault number (read_tokens line.now)) }
     ensures within { IfOk result (λ ts. are_within line.now ts ≡ true) }
     ensures ascii { IfOk result (λ ts. IsAscii line.now) }
 {
@@ -75,7 +76,8 @@ fn read_line(
     requires members { length base.now.members < 2 ^ 32 }
     requires same { vec_len sheet.now.seen ≡ length base.now.members }
     requires short { length text.now ≤ longest }
-    ensures gives { Gives (λ e. e) result (line_of base.now number (read_of sheet.now) text.now) }
+    ensures value { GivesOr told IsNowhere (λ e. e) result
+        (line_of base.now number (read_of sheet.now) text.now) }
     ensures within { IfOk result (IsWithin (vec_len sheet.now.lists)) }
 {
     let line = before_comment(text);
@@ -93,9 +95,10 @@ fn read_line(
 /// Adds a bid to the list of a member.
 fn add_bid(lists: &mut Vec<List<Bid>>, m: u32, bid: Bid) -> Result<(), BidFault>
     requires known { m < vec_len lists.old }
-    ensures ok { OnOk result (lists.new.items ≡ slice_set lists.old.items m (slice_index_or lists.old.items m [] ++ bid ∷ [])) }
+    ensures ok { OnOk result (lists.new.items
+        ≡ slice_set lists.old.items m (slice_index_or lists.old.items m [] ++ bid ∷ [])) }
     ensures same { vec_len lists.new ≡ vec_len lists.old }
-    ensures err { IfErr result (λ e. e ≡ record { line = 0; column = 0; code = NoMemory }) }
+    ensures fault { IfErr result (λ e. e ≡ record { line = 0; column = 0; code = NoMemory }) }
 {
     let list = &mut lists[m as usize];
     if list.push(bid).is_err() {
@@ -109,7 +112,7 @@ fn apply(sheet: &mut Sheet, entry: Entry) -> Result<(), BidFault>
     requires within { IsWithin (vec_len sheet.old.lists) entry }
     ensures ok { OnOk result (read_of sheet.new ≡ with_entry (read_of sheet.old) entry) }
     ensures same { vec_len sheet.new.seen ≡ vec_len sheet.old.seen }
-    ensures err { IfErr result (λ e. e ≡ record { line = 0; column = 0; code = NoMemory }) }
+    ensures fault { IfErr result (λ e. e ≡ record { line = 0; column = 0; code = NoMemory }) }
 {
     match entry {
         Entry::Nothing => Ok(()),
@@ -128,7 +131,8 @@ fn read_lines(alloc: Global, text: &[u8], base: &Base, sheet: &mut Sheet) -> Res
     requires members { length base.now.members < 2 ^ 32 }
     requires same { vec_len sheet.old.seen ≡ length base.now.members }
     requires short { length text.now ≤ longest }
-    ensures gives { Gives (λ _. read_of sheet.new) result (lines_from base.now 1 (read_of sheet.old) (lines_of text.now)) }
+    ensures value { GivesOr told IsNowhere (λ _. read_of sheet.new) result
+        (lines_from base.now 1 (read_of sheet.old) (lines_of text.now)) }
 {
     let mut rest = text;
     let mut number = 1;
@@ -149,7 +153,7 @@ fn read_lines(alloc: Global, text: &[u8], base: &Base, sheet: &mut Sheet) -> Res
 fn empty_sheet(alloc: Global, members: &[Member]) -> Result<Sheet, BidFault>
     ensures ok { IfOk result (λ sheet. read_of sheet ≡ empty_read members.now) }
     ensures same { IfOk result (λ sheet. vec_len sheet.seen ≡ length members.now) }
-    ensures err { IfErr result (λ e. e ≡ record { line = 0; column = 0; code = NoMemory }) }
+    ensures fault { IfErr result (λ e. e ≡ record { line = 0; column = 0; code = NoMemory }) }
 {
     let mut seen = Vec::new(alloc);
     let mut lists = Vec::new(alloc);
@@ -168,7 +172,7 @@ fn empty_sheet(alloc: Global, members: &[Member]) -> Result<Sheet, BidFault>
 /// The lists as one list.
 fn list_of(alloc: Global, lists: Vec<List<Bid>>) -> Result<List<List<Bid>>, BidFault>
     ensures ok { IfOk result (λ all. all ≡ lists.items) }
-    ensures err { IfErr result (λ e. e ≡ record { line = 0; column = 0; code = NoMemory }) }
+    ensures fault { IfErr result (λ e. e ≡ record { line = 0; column = 0; code = NoMemory }) }
 {
     let mut all = List::new(alloc);
     for list in lists {
@@ -183,7 +187,7 @@ fn list_of(alloc: Global, lists: Vec<List<Bid>>) -> Result<List<List<Bid>>, BidF
 fn read_text(alloc: Global, text: &[u8], base: &Base) -> Result<List<List<Bid>>, BidFault>
     requires base { IsBase base.now }
     requires short { length text.now ≤ longest }
-    ensures read { Gives (λ bids. bids) result (bids_in base.now text.now) }
+    ensures read { GivesOr told IsNowhere (λ bids. bids) result (bids_in base.now text.now) }
 {
     let mut sheet = empty_sheet(alloc, base.members.as_slice())?;
     match read_lines(alloc, text, base, &mut sheet) {
@@ -196,7 +200,7 @@ fn read_text(alloc: Global, text: &[u8], base: &Base) -> Result<List<List<Bid>>,
 pub fn read_bids(alloc: Global, text: &[u8], base: &Base) -> Result<List<List<Bid>>, BidFault>
     requires base { IsBase base.now }
     requires short { length text.now ≤ longest }
-    ensures read { Gives (λ bids. bids) result (bids_in base.now text.now) }
+    ensures read { GivesOr told IsNowhere (λ bids. bids) result (bids_in base.now text.now) }
     ensures valid { IfOk result (IsValid base.now) }
 {
     read_text(alloc, text, base)

@@ -15,7 +15,8 @@ pub enum Entry {
     Bid(u32, Bid),
 }
 
-/// What was read so far: whose bids the next line has, which members had their line, and the bids of each.
+/// What was read so far: whose bids the next line has, which members had their line, and the bids
+/// of each.
 #[derive(Drop)]
 pub struct Sheet {
     pub current: Option<u32>,

@@ -1,13 +1,11 @@
 //! Writing the bids of a problem.
-ghost use Rattle.std.specs.Prelude.{◌≡◌, ◌<◌, ◌≤◌, ◌++◌, ◌∷◌, [], true, length, All, IfOk, OnOk, OnErr, Ok, Some, slice_get};
+ghost use Rattle.std.specs.Prelude.{◌≡◌, ◌<◌, ◌≤◌, ◌++◌, ◌∷◌, [], true, length, All, IfOk, OnOk, OnErr, IsTrue, Some, slice_get};
 ghost use Rattle.std.specs.List.{list_all};
-ghost use Rattle.duty_calendar.specs.Forms.{is_name};
 ghost use Rattle.field_text.specs.Spelling.{HasPartly};
 ghost use Rattle.roster_model.specs.Scores.{bids_of};
 ghost use Rattle.roster_model.specs.Valid.{IsBid, is_wish};
-ghost use Rattle.bid_language.specs.Lines.{bids_in};
-ghost use Rattle.bid_language.specs.Rereads.{IsBidText};
-ghost use Rattle.bid_language.specs.Spelling.{bid_text, text_of, bid_lines, member_text, member_lines, all_lines, bids_text, is_spelt_wish, is_spelt_list, are_spelt};
+ghost use Rattle.bid_language.specs.Rereads.{IsAgain, IsBidText};
+ghost use Rattle.bid_language.specs.Spelling.{bid_text, text_of, bid_lines, member_text, member_lines, all_lines, bids_text, is_coded_wish, are_coded};
 
 use crate::printing::put_text;
 use crate::writing::put_word;
@@ -22,7 +20,8 @@ fn bid_at(problem: &Problem, bid: BidRef) -> &Bid
     requires bid { bid.bid < length (bids_of problem.now bid.member) }
     ensures there { slice_get (bids_of problem.now bid.member) bid.bid ≡ Some result.now }
     ensures text { bid_text problem.now.base result.now ≡ text_of problem.now bid }
-    ensures form { is_wish problem.now.base.rules.horizon (length problem.now.base.pairings) result.now.wish ≡ true }
+    ensures form { is_wish problem.now.base.rules.horizon
+        (length problem.now.base.pairings) result.now.wish ≡ true }
 {
     let lists = problem.bids.as_slice();
     let bids = lists[bid.member as usize].as_slice();
@@ -30,13 +29,17 @@ fn bid_at(problem: &Problem, bid: BidRef) -> &Bid
 }
 
 /// Appends a bid as its weight and its wish, or a part of that from its begin where memory ends.
-/// `read_bids` reads a line of this text as the bid.
+/// `read_bids` reads a line of this text as the bid: what was put, and also what was not, as long
+/// as the
+/// stations in bids have their form, which their type keeps.
 pub fn put_bid(out: &mut List<u8>, problem: &Problem, bid: BidRef) -> Result<(), Memory>
     requires member { bid.member < length problem.now.base.members }
     requires bid { bid.bid < length (bids_of problem.now bid.member) }
     ensures whole { OnOk result (out.new ≡ out.old ++ text_of problem.now bid) }
     ensures partly { OnErr result (HasPartly out.old (text_of problem.now bid) out.new) }
     ensures again { OnOk result (IsBidText problem.now bid (text_of problem.now bid)) }
+    ensures coded { IsTrue (are_coded problem.now.bids)
+        → IsBidText problem.now bid (text_of problem.now bid) }
 {
     put_text(out, &problem.base, bid_at(problem, bid))
 }
@@ -45,7 +48,7 @@ pub fn put_bid(out: &mut List<u8>, problem: &Problem, bid: BidRef) -> Result<(),
 fn put_line(out: &mut List<u8>, base: &Base, bid: &Bid) -> Result<(), Memory>
     requires form { IsBid base.now.rules.horizon (length base.now.pairings) bid.now }
     ensures whole { OnOk result (out.new ≡ out.old ++ (bid_text base.now bid.now ++ 10 ∷ [])) }
-    ensures spelt { OnOk result (is_spelt_wish base.now bid.now.wish ≡ true) }
+    ensures coded { OnOk result (is_coded_wish bid.now.wish ≡ true) }
 {
     put_text(out, base, bid)?;
     put_bytes(out, b"\n")
@@ -55,7 +58,7 @@ fn put_line(out: &mut List<u8>, base: &Base, bid: &Bid) -> Result<(), Memory>
 fn put_lines(out: &mut List<u8>, base: &Base, bids: &[Bid]) -> Result<(), Memory>
     requires forms { All (IsBid base.now.rules.horizon (length base.now.pairings)) bids.now }
     ensures whole { OnOk result (out.new ≡ out.old ++ bid_lines base.now bids.now) }
-    ensures spelt { OnOk result (list_all (λ b. is_spelt_wish base.now b.wish) bids.now ≡ true) }
+    ensures coded { OnOk result (list_all (λ b. is_coded_wish b.wish) bids.now ≡ true) }
 {
     for bid in bids {
         put_line(out, base, bid)?;
@@ -66,7 +69,6 @@ fn put_lines(out: &mut List<u8>, base: &Base, bids: &[Bid]) -> Result<(), Memory
 /// Appends the line that names a member.
 fn put_head(out: &mut List<u8>, member: &Member) -> Result<(), Memory>
     ensures whole { OnOk result (out.new ≡ out.old ++ (member_text member.now ++ 10 ∷ [])) }
-    ensures spelt { is_name member.now.name ≡ true }
 {
     put_word(out, b"member ", member.name.bytes())?;
     put_bytes(out, b"\n")
@@ -75,9 +77,9 @@ fn put_head(out: &mut List<u8>, member: &Member) -> Result<(), Memory>
 /// Appends the lines of a member with bids.
 fn put_some(out: &mut List<u8>, base: &Base, member: &Member, bids: &[Bid]) -> Result<(), Memory>
     requires forms { All (IsBid base.now.rules.horizon (length base.now.pairings)) bids.now }
-    ensures whole { OnOk result (out.new ≡ out.old ++ ((member_text member.now ++ 10 ∷ []) ++ bid_lines base.now bids.now)) }
-    ensures name { is_name member.now.name ≡ true }
-    ensures spelt { OnOk result (list_all (λ b. is_spelt_wish base.now b.wish) bids.now ≡ true) }
+    ensures whole { OnOk result (out.new ≡ out.old
+        ++ ((member_text member.now ++ 10 ∷ []) ++ bid_lines base.now bids.now)) }
+    ensures coded { OnOk result (list_all (λ b. is_coded_wish b.wish) bids.now ≡ true) }
 {
     put_head(out, member)?;
     put_lines(out, base, bids)
@@ -87,7 +89,7 @@ fn put_some(out: &mut List<u8>, base: &Base, member: &Member, bids: &[Bid]) -> R
 fn put_member(out: &mut List<u8>, base: &Base, member: &Member, bids: &[Bid]) -> Result<(), Memory>
     requires forms { All (IsBid base.now.rules.horizon (length base.now.pairings)) bids.now }
     ensures whole { OnOk result (out.new ≡ out.old ++ member_lines base.now member.now bids.now) }
-    ensures spelt { OnOk result (is_spelt_list base.now member.now bids.now ≡ true) }
+    ensures coded { OnOk result (list_all (λ b. is_coded_wish b.wish) bids.now ≡ true) }
 {
     if bids.is_empty() {
         return Ok(());
@@ -105,7 +107,7 @@ fn put_members(
     requires same { length lists.now ≡ length members.now }
     requires forms { All (All (IsBid base.now.rules.horizon (length base.now.pairings))) lists.now }
     ensures whole { OnOk result (out.new ≡ out.old ++ all_lines base.now members.now lists.now) }
-    ensures spelt { OnOk result (are_spelt base.now members.now lists.now ≡ true) }
+    ensures coded { OnOk result (are_coded lists.now ≡ true) }
 {
     for m in 0..members.len() {
         put_member(out, base, &members[m], lists[m].as_slice())?;
@@ -116,7 +118,7 @@ fn put_members(
 /// Appends the lines of a problem's members.
 fn put_problem(out: &mut List<u8>, problem: &Problem) -> Result<(), Memory>
     ensures whole { OnOk result (out.new ≡ out.old ++ bids_text problem.now) }
-    ensures spelt { OnOk result (are_spelt problem.now.base problem.now.base.members problem.now.bids ≡ true) }
+    ensures coded { OnOk result (are_coded problem.now.bids ≡ true) }
 {
     put_members(
         out,
@@ -126,10 +128,14 @@ fn put_problem(out: &mut List<u8>, problem: &Problem) -> Result<(), Memory>
     )
 }
 
-/// The text of the problem's bids, which `read_bids` reads as these bids.
+/// The text of the problem's bids, which `read_bids` reads as these bids: what was printed, and
+/// also
+/// what was not, as long as the stations in bids have their form, which their type keeps.
 pub fn print_bids(alloc: Global, problem: &Problem) -> Result<List<u8>, Memory>
-    ensures text { IfOk result (λ text. text ≡ bids_text problem.now) }
-    ensures again { OnOk result (bids_in problem.now.base (bids_text problem.now) ≡ Ok problem.now.bids) }
+    ensures whole { IfOk result (λ text. text ≡ bids_text problem.now) }
+    ensures again { OnOk result (IsAgain problem.now (bids_text problem.now)) }
+    ensures coded { IsTrue (are_coded problem.now.bids)
+        → IsAgain problem.now (bids_text problem.now) }
 {
     let mut out = List::new(alloc);
     put_problem(&mut out, problem)?;

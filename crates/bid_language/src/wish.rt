@@ -79,7 +79,8 @@ fn wish(alloc: Global, base: &Base, words: &mut Words) -> Result<Wish, Stop>
 /// The weight that a token says.
 #[tactic(auto, unfolding(crate::specs::Grammar::weight))]
 fn weight(spot: &Spot, words: &mut Words) -> Result<u32, Stop>
-    ensures reads { Reads result (weight (record { column = spot.now.column; text = spot.now.text.now })) words.old words.new }
+    ensures reads { Reads result (weight
+        (record { column = spot.now.column; text = spot.now.text.now })) words.old words.new }
 {
     match read_number(text_of(spot)) {
         Ok(weight) => {
@@ -117,7 +118,8 @@ pub fn bid(
     words: &mut Words,
 ) -> Result<Bid, Stop>
     requires few { length base.now.pairings < 2 ^ 32 }
-    ensures reads { Reads result (bid base.now count (record { column = spot.now.column; text = spot.now.text.now })) words.old words.new }
+    ensures reads { Reads result (bid base.now count
+        (record { column = spot.now.column; text = spot.now.text.now })) words.old words.new }
 {
     let weight = weight(spot, words)?;
     room(count, words)?;

@@ -48,7 +48,8 @@ impl<'a> Model for Words<'a> {
 
     ghost view = { λ w. rest_of w.line.now w.tokens.now };
 
-    ghost invariant = { λ w. IsAscii w.line.now × (length w.line.now ≤ longest) × (are_within w.line.now w.tokens.now ≡ true) };
+    ghost invariant = { λ w. IsAscii w.line.now × (length w.line.now ≤ longest)
+        × (are_within w.line.now w.tokens.now ≡ true) };
 }
 
 impl<'a> Words<'a> {
@@ -64,7 +65,8 @@ impl<'a> Words<'a> {
 
     /// The next token, or the fault that one is missing.
     pub fn next(&mut self, word: Word) -> Result<Spot<'a>, Stop>
-        ensures reads { ReadsAs (λ s. record { column = s.column; text = s.text.now }) result (next word) self.old self.new }
+        ensures reads { ReadsAs (λ s. record { column = s.column; text = s.text.now }) result
+            (next word) self.old self.new }
     {
         let Some((token, rest)) = self.tokens.split_first() else {
             return Err(Stop::Fault(LineFault {
@@ -82,7 +84,8 @@ impl<'a> Words<'a> {
 
     /// The next token, if there is one.
     pub fn optional(&mut self) -> Option<Spot<'a>>
-        ensures reads { optional self.old ≡ Ok (option_map (λ s. record { column = s.column; text = s.text.now }) result, self.new) }
+        ensures reads { optional self.old
+            ≡ Ok (option_map (λ s. record { column = s.column; text = s.text.now }) result, self.new) }
     {
         let Some((token, rest)) = self.tokens.split_first() else {
             return None;

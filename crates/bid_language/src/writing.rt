@@ -82,7 +82,8 @@ pub fn put_month_day(
     requires first { 365 ≤ day }
     requires last { day < 365 + month_days horizon.now }
     ensures whole { OnOk result (out.new ≡ out.old ++ (front.now ++ day_word horizon.now day)) }
-    ensures partly { OnErr result (HasPartly out.old (front.now ++ day_word horizon.now day) out.new) }
+    ensures partly { OnErr result (HasPartly out.old
+        (front.now ++ day_word horizon.now day) out.new) }
 {
     put_bytes(out, front)?;
     put_date(out, horizon, day)

@@ -11,7 +11,8 @@ use Rattle.cert_text.specs.declared.flaw.Flaw.TheVariants as flaw
 use Rattle.cert_text.specs.declared.flaw.Stop.{Stop}
 use Rattle.cert_text.specs.declared.flaw.Stop.TheVariants as stop
 use Rattle.cert_text.specs.Words.{is_word, is_none}
-use Rattle.cert_text.specs.Lines.{◌>>=◌, Rest, Line, Reader, and_then, done, wrong, cut, line_of, next, says, words_after, FailsBy, Finds, Gives, fault_of}
+use Rattle.field_text.specs.Gives.{GivesOr}
+use Rattle.cert_text.specs.Lines.{◌>>=◌, Rest, Line, Reader, and_then, done, wrong, cut, line_of, next, says, words_after, FailsBy, Finds, fault_of, told, IsNowhere}
 use Rattle.cert_text.specs.Forms as form
 use Rattle.cert_text.specs.Reading.{several, line_with, lens_line, split, count, fixed, no_line, weights, item_of, item, proof, row, shown_proof, shown, award, bare, no_roster, body_of, body, is_version, version, last, whole, is_nil, ended, certificate_in}
 
@@ -193,6 +194,6 @@ gives_by text f e = by_code f.code refl
     by_code code.Trailing h = e
     by_code code.Limit h = e
 
-pub gives_fault : (text : List ℕ) (s : Stop) → Finds {X = Certificate} (Err s) (certificate_in text) → Gives {X = Certificate} (Err (fault_of s)) (certificate_in text)
+pub gives_fault : (text : List ℕ) (s : Stop) → Finds {X = Certificate} (Err s) (certificate_in text) → GivesOr told IsNowhere (λ (c : Certificate). c) (Err (fault_of s)) (certificate_in text)
 gives_fault text stop.NoMemory h = refl
 gives_fault text (stop.Fault f) h = gives_by text f h

@@ -13,7 +13,8 @@ use Rattle.cert_text.specs.declared.fault.CertCode.TheVariants as code
 use Rattle.cert_text.specs.declared.fault.CertFault.{CertFault}
 use Rattle.cert_text.specs.declared.flaw.Flaw.{Flaw}
 use Rattle.cert_text.specs.Words.{is_word, is_none}
-use Rattle.cert_text.specs.Lines.{◌>>=◌, Rest, Line, Reader, and_then, done, wrong, cut, line_of, next, flaw_code, says, words_after, FailsBy, Gives}
+use Rattle.field_text.specs.Gives.{GivesOr}
+use Rattle.cert_text.specs.Lines.{◌>>=◌, Rest, Line, Reader, and_then, done, wrong, cut, line_of, next, flaw_code, says, words_after, FailsBy, told, IsNowhere}
 use Rattle.cert_text.specs.Continuations.{lines_to, GoesOn, GoesOnBy, GoesOnAt}
 use Rattle.cert_text.specs.Forms as form
 use Rattle.cert_text.specs.Reading.{several, line_with, lens_line, split, count, fixed, no_line, weights, item_of, item, proof, row, shown_proof, shown, award, bare, no_roster, body_of, body, is_version, version, last, whole, is_nil, ended, certificate_in}
@@ -349,7 +350,7 @@ fault_goes_on text f e = by_case (whole (at 1 text)) refl e
             ([], x.0, ap (λ (t : List ℕ). ended (whole (at 1 (t ++ [])))) front ∙ ap (λ (t : List ℕ). ended (whole (at 1 t))) (append-nil (u.used ++ [])) ∙ ap ended (u.again []))
 
 -- the same of what a function answered
-pub goes_on : (r : Result Certificate CertFault) (text : List ℕ) → Gives r (certificate_in text) → IfErr r (λ f. GoesOnAt f text)
+pub goes_on : (r : Result Certificate CertFault) (text : List ℕ) → GivesOr told IsNowhere (λ c. c) r (certificate_in text) → IfErr r (λ f. GoesOnAt f text)
 goes_on (Ok c) text h = tt
 goes_on (Err f) text h = by_code f.code refl h
   where

@@ -16,7 +16,8 @@ use Rattle.cert_text.specs.declared.limits.TheConstants.{MOST_PROOFS, MOST_SHOWN
 use Rattle.cert_text.specs.declared.fault.CertCode.TheVariants as code
 use Rattle.cert_text.specs.declared.fault.CertFault.{CertFault}
 use Rattle.cert_text.specs.Words.{is_word, is_none}
-use Rattle.cert_text.specs.Lines.{◌>>=◌, Rest, Line, Reader, and_then, done, wrong, next, says, Gives}
+use Rattle.field_text.specs.Gives.{GivesOr}
+use Rattle.cert_text.specs.Lines.{◌>>=◌, Rest, Line, Reader, and_then, done, wrong, next, says, told, IsNowhere}
 use Rattle.cert_text.specs.Forms as form
 use Rattle.cert_text.specs.Reading.{several, line_with, lens_line, split, count, fixed, no_line, weights, item_by, item_of, item, proof, row, shown_proof, roster_of, shown, award, bare, no_roster, body_by, body_of, body, version_by, is_version, version, last, whole, is_nil, ended, certificate_in}
 use Rattle.cert_text.specs.Spelling.{line_text, index_text, flag_text, weight_text, lens_words, lens_text, item_text, proof_text, row_text, shown_proof_text, has_proof, rows_of, shown_text, body_text, certificate_text}
@@ -649,5 +650,5 @@ certificate_again c h =
     let g = whole_again 1 c [] h in
     ap (λ (y : List ℕ). ended (whole (at 1 y))) (sym (append-nil (lines_text c))) ∙ ap ended g.1
 
-pub given_again : (r : Result Certificate CertFault) (text : List ℕ) (c : Certificate) → Gives r (certificate_in text) → is_certificate c ≡ true → text ≡ certificate_text c → Gives r (Ok c)
-given_again r text c given h e = subst (λ f. Gives r f) (ap certificate_in e ∙ certificate_again c h) given
+pub given_again : (r : Result Certificate CertFault) (text : List ℕ) (c : Certificate) → GivesOr told IsNowhere (λ c. c) r (certificate_in text) → is_certificate c ≡ true → text ≡ certificate_text c → GivesOr told IsNowhere (λ c. c) r (Ok c)
+given_again r text c given h e = subst (λ f. GivesOr told IsNowhere (λ c. c) r f) (ap certificate_in e ∙ certificate_again c h) given

@@ -9,7 +9,8 @@ use Rattle.cert_text.specs.declared.fault.CertCode.TheVariants as code
 use Rattle.cert_text.specs.declared.fault.CertFault.{CertFault}
 use Rattle.cert_text.specs.declared.flaw.Flaw.{Flaw}
 use Rattle.cert_text.specs.Words.{words_of, is_word, is_none}
-use Rattle.cert_text.specs.Lines.{◌>>=◌, Rest, Line, Reader, and_then, done, wrong, cut, line_of, next, flaw_code, says, words_after, FailsBy, Gives}
+use Rattle.field_text.specs.Gives.{GivesOr}
+use Rattle.cert_text.specs.Lines.{◌>>=◌, Rest, Line, Reader, and_then, done, wrong, cut, line_of, next, flaw_code, says, words_after, FailsBy, told, IsNowhere}
 use Rattle.cert_text.specs.Continuations.{lines_to, StandsBy, StandsAt}
 use Rattle.cert_text.specs.Forms as form
 use Rattle.cert_text.specs.Reading.{several, line_with, lens_line, split, count, fixed, no_line, weights, item_of, item, proof, row, shown_proof, shown, award, bare, no_roster, body_of, body, is_version, version, last, whole, is_nil, ended, certificate_in}
@@ -391,7 +392,7 @@ fault_stands text f e real b = by_case (whole (at 1 text)) refl e
             ∙ ap (λ (g : CertFault). failed {A = Certificate} g) same
 
 -- the same of what a function answered
-pub stands : (r : Result Certificate CertFault) (text : List ℕ) → Gives r (certificate_in text) → IfErr r (λ f. StandsAt f text)
+pub stands : (r : Result Certificate CertFault) (text : List ℕ) → GivesOr told IsNowhere (λ c. c) r (certificate_in text) → IfErr r (λ f. StandsAt f text)
 stands (Ok c) text h = tt
 stands (Err f) text h = by_code f.code refl h
   where

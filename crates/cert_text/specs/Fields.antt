@@ -68,7 +68,8 @@ unfoldable pub index : List ℕ → Result ℕ Flaw
 index word = mapped (λ n. n - 1) (positive (number LAST_INDEX word))
 
 unfoldable pub flag : List ℕ → Result Bool Flaw
-flag word = if is_word word (codes "1") then Ok true else (if is_word word (codes "0") then Ok false else Err Number)
+flag word = if is_word word (codes "1") then Ok true
+    else (if is_word word (codes "0") then Ok false else Err Number)
 
 abbrev pub minus : ℕ → ℤ
 minus n = negsuc (n - 1)
@@ -78,7 +79,8 @@ is_minus [] = false
 is_minus (c ∷ cs) = c == 45
 
 unfoldable pub weight : List ℕ → Result ℤ Flaw
-weight word = if is_minus word then mapped minus (positive (number GREATEST_WEIGHT (drop 1 word))) else mapped pos (number GREATEST_WEIGHT word)
+weight word = if is_minus word then mapped minus (positive (number GREATEST_WEIGHT (drop 1 word)))
+    else mapped pos (number GREATEST_WEIGHT word)
 
 abbrev pub hex_value : ℕ → ℕ
 hex_value c = if is_ascii_digit c then c - 48 else c - 87
@@ -123,14 +125,16 @@ window_of (Some kind) digits = begin_at kind digits
 unfoldable pub window : List ℕ → Result Window Flaw
 window word = window_of (kind_of (take 5 word)) (drop 5 word)
 
--- the order of numbers by their digits: fewer digits come first, and then the first digit that differs decides
+-- the order of numbers by their digits: fewer digits come first, and then the first digit that
+-- differs decides
 abbrev pub digits_below : List ℕ → List ℕ → Bool
 digits_below [] other = false
 digits_below (c ∷ cs) [] = false
 digits_below (c ∷ cs) (d ∷ ds) = nat_lt c d || (c == d && digits_below cs ds)
 
 abbrev pub is_below : List ℕ → List ℕ → Bool
-is_below word other = nat_lt (length word) (length other) || (length word == length other && digits_below word other)
+is_below word other =
+    nat_lt (length word) (length other) || (length word == length other && digits_below word other)
 
 -- whether each word is below the next one
 abbrev pub ascends_after : List ℕ → List (List ℕ) → Bool

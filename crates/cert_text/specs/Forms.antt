@@ -29,7 +29,8 @@ abbrev pub Head : Type 0
 Head = (ℕ × ℕ) × (Bool × Bool)
 
 abbrev pub lens_of : Head × List Window → Lens
-lens_of x = record { grain = x.0.0.0; tracked = x.0.0.1; free30 = x.0.1.0; days = x.0.1.1; windows = x.1 }
+lens_of x =
+    record { grain = x.0.0.0; tracked = x.0.0.1; free30 = x.0.1.0; days = x.0.1.1; windows = x.1 }
 
 abbrev pub windows : List (List ℕ) → Result (List Window) Flaw
 windows words = few MOST_WINDOWS (each window words)
@@ -41,7 +42,8 @@ head words = do
   bits ← first grain.1
   free30 ← first bits.1
   days ← first free30.1
-  Ok (pair (pair (number LAST_MINUTE grain.0) (tracked bits.0)) (pair (flag free30.0) (flag days.0)), days.1)
+  Ok (pair (pair (number LAST_MINUTE grain.0) (tracked bits.0))
+      (pair (flag free30.0) (flag days.0)), days.1)
 
 unfoldable pub lens : List (List ℕ) → Result Lens Flaw
 lens words = do

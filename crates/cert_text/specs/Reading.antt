@@ -172,7 +172,8 @@ is_nil (b ∷ bs) = false
 
 -- nothing follows
 abbrev pub ended : {A : Type 0} → Result (A × Rest) CertFault → Result A CertFault
-ended (Ok x) = if is_nil x.1.bytes then Ok x.0 else Err (record { line = x.1.line; code = code.Trailing })
+ended (Ok x) =
+    if is_nil x.1.bytes then Ok x.0 else Err (record { line = x.1.line; code = code.Trailing })
 ended (Err e) = Err e
 
 -- the certificate of a text, or the first line at which no text of a certificate goes on, and why

@@ -34,7 +34,8 @@ is_short_shown s = is_short_option s.proof && is_short_roster s.roster
 
 abbrev pub is_short_awarded : Awarded → Bool
 is_short_awarded a =
-    is_short a.proofs && (is_short a.shown && (list_all is_short_proof a.proofs && list_all is_short_shown a.shown))
+    is_short a.proofs && (is_short a.shown
+        && (list_all is_short_proof a.proofs && list_all is_short_shown a.shown))
 
 abbrev pub is_short_certificate : Certificate → Bool
 is_short_certificate (Award a) = is_short_awarded a

@@ -48,7 +48,8 @@ abbrev pub window_text : Window → List ℕ
 window_text w = kind_word w.kind ++ decimal w.start
 
 abbrev pub lens_words : Lens → List (List ℕ)
-lens_words l = decimal l.grain ∷ (bits_text l.tracked ∷ (flag_text l.free30 ∷ (flag_text l.days ∷ map window_text l.windows)))
+lens_words l = decimal l.grain ∷ (bits_text l.tracked
+    ∷ (flag_text l.free30 ∷ (flag_text l.days ∷ map window_text l.windows)))
 
 abbrev pub lens_text : Lens → List ℕ
 lens_text l = line_text (codes "lens") (lens_words l)
@@ -58,10 +59,12 @@ item_text (Split m p) = line_text (codes "split") (index_text m ∷ (index_text 
 item_text (Count p) = line_text (codes "count") (index_text p ∷ [])
 item_text (Fixed m) = line_text (codes "fixed") (index_text m ∷ [])
 item_text (NoLine m l) = line_text (codes "noline") (index_text m ∷ lens_words l)
-item_text (Weights ws ls) = line_text (codes "weights") (decimal (length ls) ∷ map weight_text ws) ++ flat_map lens_text ls
+item_text (Weights ws ls) =
+    line_text (codes "weights") (decimal (length ls) ∷ map weight_text ws) ++ flat_map lens_text ls
 
 abbrev pub proof_text : List Item → List ℕ
-proof_text items = line_text (codes "proof") (decimal (length items) ∷ []) ++ flat_map item_text items
+proof_text items =
+    line_text (codes "proof") (decimal (length items) ∷ []) ++ flat_map item_text items
 
 abbrev pub row_text : List ℕ → List ℕ
 row_text row = line_text (codes "line") (map index_text row)
@@ -80,7 +83,8 @@ rows_of (Some rows) = rows
 
 abbrev pub shown_text : Shown → List ℕ
 shown_text s =
-    line_text (codes "shown") (flag_text (has_proof s.proof) ∷ (decimal (length (rows_of s.roster)) ∷ []))
+    line_text (codes "shown") (flag_text (has_proof s.proof)
+        ∷ (decimal (length (rows_of s.roster)) ∷ []))
     ++ shown_proof_text s.proof ++ flat_map row_text (rows_of s.roster)
 
 abbrev pub awarded_text : Awarded → List ℕ
@@ -93,4 +97,5 @@ body_text (Award a) = awarded_text a
 body_text (NoRoster p) = line_text (codes "none") [] ++ proof_text p
 
 unfoldable pub certificate_text : Certificate → List ℕ
-certificate_text c = line_text (codes "pbs-certificate") (codes "1" ∷ []) ++ body_text c ++ line_text (codes "end") []
+certificate_text c = line_text (codes "pbs-certificate") (codes "1" ∷ []) ++ body_text c
+    ++ line_text (codes "end") []

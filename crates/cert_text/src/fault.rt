@@ -4,7 +4,8 @@ ghost use Rattle.cert_text.specs.Codes.{cert_code};
 
 use thiserror::Error;
 
-/// What is wrong with a line. Of a line's words the first is tested first, then all in the order of `Number` and
+/// What is wrong with a line. Of a line's words the first is tested first, then all in the order of
+/// `Number` and
 /// `Limit`.
 #[derive(Clone, Copy, Debug, PartialEq, Eq, Error)]
 pub enum CertCode {
@@ -14,10 +15,12 @@ pub enum CertCode {
     /// The first line names another form or version. Code 1.
     #[error("not this version of a certificate")]
     Version,
-    /// The line begins with a word that may not stand there, or goes on after a word that stands alone. Code 2.
+    /// The line begins with a word that may not stand there, or goes on after a word that stands
+    /// alone. Code 2.
     #[error("another word is expected")]
     Word,
-    /// Too few or too many words, a misspelt one, a row that does not ascend, or a member or pairing 0. Code 3.
+    /// Too few or too many words, a misspelt one, a row that does not ascend, or a member or
+    /// pairing 0. Code 3.
     #[error("the words after the first are not of this form")]
     Number,
     /// The text ends before the line feed of its last line. Code 4.

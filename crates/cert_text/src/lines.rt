@@ -66,7 +66,9 @@ impl<'a> Lines<'a> {
     /// The next line.
     #[tactic(auto, unfolding(crate::specs::Lines::next))]
     pub fn next(&mut self) -> Result<Line<'a>, Stop>
-        ensures reads { ReadsAs (λ l. record { number = l.number; words = words_of l.bytes.now }) result next self.old self.new }
+        ensures reads { ReadsAs
+            (λ l. record { number = l.number; words = words_of l.bytes.now }) result
+            next self.old self.new }
     {
         let number = self.number;
         let Some((bytes, rest)) = split_line(self.bytes) else {
@@ -110,7 +112,9 @@ fn split_line(bytes: &[u8]) -> Option<(&[u8], &[u8])>
 /// The words behind the first one of the next line, which is this word.
 #[tactic(auto, unfolding(crate::specs::Reading::line_with))]
 pub fn line_with<'a>(lines: &mut Lines<'a>, word: &[u8]) -> Result<Line<'a>, Stop>
-    ensures reads { ReadsAs (λ l. record { number = l.number; words = words_behind l.bytes.now }) result (line_with word.now) lines.old lines.new }
+    ensures reads { ReadsAs
+        (λ l. record { number = l.number; words = words_behind l.bytes.now }) result
+        (line_with word.now) lines.old lines.new }
 {
     let line = lines.next()?;
     let (first, bytes) = first_word(line.bytes);

@@ -311,7 +311,8 @@ fn put_shown_proof(out: &mut List<u8>, proof: &Option<Proof>) -> Result<(), Memo
 
 /// Appends the line that says what is shown.
 fn put_shown_head(out: &mut List<u8>, has_proof: bool, rows: u32) -> Result<(), Memory>
-    ensures whole { OnOk result (out.new ≡ out.old ++ line_text (codes "shown") (flag_text has_proof ∷ (decimal rows ∷ []))) }
+    ensures whole { OnOk result (out.new ≡ out.old
+        ++ line_text (codes "shown") (flag_text has_proof ∷ (decimal rows ∷ []))) }
 {
     put_bytes(out, b"shown")?;
     put_flag(out, has_proof)?;
@@ -343,7 +344,8 @@ fn put_several_shown(out: &mut List<u8>, shown: &[Shown]) -> Result<(), Memory>
 
 /// Appends the line that says how much shows an award.
 fn put_award_head(out: &mut List<u8>, proofs: u32, shown: u32) -> Result<(), Memory>
-    ensures whole { OnOk result (out.new ≡ out.old ++ line_text (codes "award") (decimal proofs ∷ (decimal shown ∷ []))) }
+    ensures whole { OnOk result (out.new ≡ out.old
+        ++ line_text (codes "award") (decimal proofs ∷ (decimal shown ∷ []))) }
 {
     put_bytes(out, b"award")?;
     put_count(out, proofs)?;
@@ -386,11 +388,13 @@ fn put_lines(out: &mut List<u8>, certificate: &Certificate) -> Result<(), Memory
     put_bytes(out, b"end\n")
 }
 
-/// The text of a certificate, which `read_certificate` reads as the certificate, where it keeps the limits.
+/// The text of a certificate, which `read_certificate` reads as the certificate, where it keeps the
+/// limits.
 pub fn print_certificate(alloc: Global, certificate: &Certificate) -> Result<List<u8>, Memory>
     requires short { is_short_certificate certificate.now ≡ true }
     ensures text { IfOk result (λ text. text ≡ certificate_text certificate.now) }
-    ensures again { is_certificate certificate.now ≡ true → OnOk result (certificate_in (certificate_text certificate.now) ≡ Ok certificate.now) }
+    ensures again { is_certificate certificate.now ≡ true
+        → OnOk result (certificate_in (certificate_text certificate.now) ≡ Ok certificate.now) }
 {
     let mut out = List::new(alloc);
     put_lines(&mut out, certificate)?;

@@ -7,7 +7,8 @@ ghost use Rattle.cert_text.specs.Sizes.{is_short_certificate};
 ghost use Rattle.cert_text.specs.Spelling.{certificate_text};
 ghost use Rattle.cert_text.specs.Limits.{is_certificate};
 ghost use Rattle.cert_text.specs.Words.{words_of, words_behind};
-ghost use Rattle.cert_text.specs.Lines.{Rest, Reads, Finds, Gives, fault_of};
+ghost use Rattle.field_text.specs.Gives.{GivesOr};
+ghost use Rattle.cert_text.specs.Lines.{Rest, Reads, Finds, fault_of, told, IsNowhere};
 ghost use Rattle.cert_text.specs.declared.flaw.Stop.TheVariants.{NoMemory};
 ghost use Rattle.roster_model.specs.Ascending.{is_ascending};
 ghost use Rattle.cert_text.specs.Reading.{several, lens_line, split, count, fixed, no_line, weights, item_by, item, proof, row, shown_proof, roster_of, shown, award, bare, no_roster, body_by, body, version_by, is_version, version, last, whole, certificate_in};
@@ -92,7 +93,8 @@ fn fixed(number: u32, words: &[u8]) -> Result<Item, Stop>
 /// A member without a line.
 #[tactic(auto, unfolding(crate::specs::Reading::no_line))]
 fn no_line(alloc: Global, number: u32, words: &[u8]) -> Result<Item, Stop>
-    ensures reads { (rest : Rest) → Reads result (no_line number (words_behind words.now)) rest rest }
+    ensures reads { (rest : Rest) → Reads result
+        (no_line number (words_behind words.now)) rest rest }
 {
     match forms::member_lens(alloc, words)? {
         Ok((member, lens)) => Ok(Item::NoLine(member, lens)),
@@ -120,7 +122,8 @@ fn item_by(
     words: &[u8],
     lines: &mut Lines,
 ) -> Result<Item, Stop>
-    ensures reads { Reads result (item_by number word.now (words_behind words.now)) lines.old lines.new }
+    ensures reads { Reads result (item_by number word.now
+        (words_behind words.now)) lines.old lines.new }
 {
     if is_word(word, b"split") {
         return split(number, words);
@@ -311,7 +314,8 @@ fn body_by(
     words: &[u8],
     lines: &mut Lines,
 ) -> Result<Certificate, Stop>
-    ensures reads { Reads result (body_by number word.now (words_behind words.now)) lines.old lines.new }
+    ensures reads { Reads result (body_by number word.now
+        (words_behind words.now)) lines.old lines.new }
 {
     if is_word(word, b"award") {
         return award(alloc, number, words, lines);
@@ -413,13 +417,14 @@ fn fault_of(stop: Stop) -> CertFault
 #[tactic(auto, using(crate::proofs::Faults::gives_fault))]
 pub fn read_certificate(alloc: Global, text: &[u8]) -> Result<Certificate, CertFault>
     requires short { length text.now ≤ longest }
-    ensures read { Gives result (certificate_in text.now) }
+    ensures read { GivesOr told IsNowhere (λ c. c) result (certificate_in text.now) }
     ensures found { IfOk result (λ c. text.now ≡ certificate_text c) }
     ensures limits { IfOk result (λ c. is_certificate c ≡ true) }
     ensures short { IfOk result (λ c. is_short_certificate c ≡ true) }
     ensures first { IfErr result (λ fault. StandsAt fault text.now) }
     ensures before { IfErr result (λ fault. GoesOnAt fault text.now) }
-    ensures again { (c : Value) → is_certificate c ≡ true → text.now ≡ certificate_text c → Gives result (Ok c) }
+    ensures again { (c : Value) → is_certificate c ≡ true → text.now ≡ certificate_text c
+        → GivesOr told IsNowhere (λ c. c) result (Ok c) }
 {
     match certificate_in(alloc, text) {
         Ok(certificate) => Ok(certificate),

@@ -29,7 +29,8 @@ pub fn first_word(line: &[u8]) -> (&[u8], &[u8])
 
 /// The first of the words that stand each behind a space, and what stands behind it.
 pub fn next_word(words: &[u8]) -> Result<(&[u8], &[u8]), Flaw>
-    ensures said { Says (λ x. (x.0.now, words_behind x.1.now)) result (first (words_behind words.now)) }
+    ensures said { Says (λ x. (x.0.now, words_behind x.1.now)) result
+        (first (words_behind words.now)) }
     ensures shorter { IfOk result (λ x. length x.1.now < length words.now) }
 {
     match words.split_first() {

@@ -20,17 +20,17 @@ use Rattle.field_text.specs.declared.file_fault.FileCode.{FileCode}
 use Rattle.field_text.specs.declared.file_fault.FileCode.TheVariants as code
 use Rattle.field_text.specs.declared.file_fault.FileName.TheVariants as name
 use Rattle.field_text.specs.Fields.{name_field, minutes_field, moment_field}
-use Rattle.field_text.specs.Rows.{in_column}
+use Rattle.field_text.specs.Rows.{in_column, text_row}
 use Rattle.field_text.specs.Steps.{◌>>=◌}
 use Rattle.field_text.proofs.FieldsAgain.{name-read}
 use Rattle.crew_files.specs.declared.part.Part.{Part}
 use Rattle.crew_files.specs.declared.part.Part.TheVariants.{History, Fixed}
-use Rattle.crew_files.specs.Rows.{text_row}
 use Rattle.crew_files.specs.Crew.{crew_header, crew_row, crew_columns, member_checked, is_named, has_name, new_member}
 use Rattle.crew_files.specs.Events.{event_header, event_row, event_columns, event_checked, kind_field, times_fit, flights_fit, last_release, is_in_order, may_report, with_event, part_of, changed}
 use Rattle.crew_files.specs.Limits.{most_events, events_limit}
 use Rattle.crew_files.specs.Flights.{flights_field}
-use Rattle.crew_files.specs.Files.{records_of, crew_file, event_file, members_of, some_members}
+use Rattle.crew_files.specs.Files.{crew_file, event_file, members_of, some_members}
+use Rattle.field_text.specs.Records.{records_of}
 use Rattle.crew_files.proofs.Steps.{bind-value, when-value, unless-value, in_column-value}
 use Rattle.crew_files.proofs.RowsFrom.{file-keep}
 use Rattle.crew_files.proofs.Values.{moment-bound, flights-some}

@@ -4,6 +4,7 @@ pub mod Values
 pub mod Kept
 pub mod Checked
 pub mod FlightSteps
+pub mod FlightForm
 pub mod Names
 pub mod LastEvents
 pub mod Columns

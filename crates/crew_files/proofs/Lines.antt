@@ -4,27 +4,21 @@ use Rattle.std.proofs.lemmas.List.Elements.{All-head, All-tail}
 use Rattle.duty_calendar.specs.declared.horizon.Horizon.{Horizon}
 use Rattle.duty_calendar.specs.declared.member.Member.{Member}
 use Rattle.field_text.specs.Spelling.{minutes_text}
-use Rattle.field_text.proofs.CleanLines.{clean_line, clean_lines, line_end, AreClean, AreCleanRows}
+use Rattle.field_text.proofs.CleanLines.{clean_lines, AreClean, AreCleanRows}
 use Rattle.crew_files.specs.declared.part.Part.{Part}
 use Rattle.crew_files.specs.Crew.{crew_header}
 use Rattle.crew_files.specs.Events.{event_header, part_of}
-use Rattle.crew_files.specs.Texts.{line, crew_fields, crew_text, kind_text, times_fields, flights_text, event_fields, events_of_member, events_text}
-
-end-same : (fs : List (List ℕ)) → flat_map (λ (g : List ℕ). 44 ∷ g) fs ++ 10 ∷ [] ≡ line_end fs
-end-same [] = refl
-end-same (f ∷ fs) = ap (λ (t : List ℕ). 44 ∷ t) (append_assoc f (flat_map (λ (g : List ℕ). 44 ∷ g) fs) (10 ∷ []) ∙ ap (λ (t : List ℕ). f ++ t) (end-same fs))
-
-line-same : (f : List ℕ) (fs : List (List ℕ)) → line (f ∷ fs) ≡ clean_line (f ∷ fs)
-line-same f fs = append_assoc f (flat_map (λ (g : List ℕ). 44 ∷ g) fs) (10 ∷ []) ∙ ap (λ (t : List ℕ). f ++ t) (end-same fs)
+use Rattle.crew_files.specs.Texts.{crew_fields, crew_text, kind_text, times_fields, flights_text, event_fields, events_of_member, events_text}
+use Rattle.field_text.specs.Rows.{line, line_end}
 
 lines-append : (rs qs : List (List (List ℕ))) → clean_lines (rs ++ qs) ≡ clean_lines rs ++ clean_lines qs
 lines-append [] qs = refl
-lines-append (r ∷ rs) qs = ap (λ (t : List ℕ). clean_line r ++ t) (lines-append rs qs) ∙ sym (append_assoc (clean_line r) (clean_lines rs) (clean_lines qs))
+lines-append (r ∷ rs) qs = ap (λ (t : List ℕ). line r ++ t) (lines-append rs qs) ∙ sym (append_assoc (line r) (clean_lines rs) (clean_lines qs))
 
 module _ {X : Type 0} (fields : X → List (List ℕ)) where
-  each-line : ((x : X) → line (fields x) ≡ clean_line (fields x)) → (xs : List X) → flat_map (λ (x : X). line (fields x)) xs ≡ clean_lines (map fields xs)
-  each-line h [] = refl
-  each-line h (x ∷ xs) = ap (λ (t : List ℕ). t ++ flat_map (λ (y : X). line (fields y)) xs) (h x) ∙ ap (λ (t : List ℕ). clean_line (fields x) ++ t) (each-line h xs)
+  each-line : (xs : List X) → flat_map (λ (x : X). line (fields x)) xs ≡ clean_lines (map fields xs)
+  each-line [] = refl
+  each-line (x ∷ xs) = ap (λ (t : List ℕ). line (fields x) ++ t) (each-line xs)
 
   pub each-clean : (P : X → Type 0) → ((x : X) → P x → (2 ≤ length (fields x)) × AreClean (fields x)) → (xs : List X) → All P xs → AreCleanRows (map fields xs)
   each-clean P h [] a = tt
@@ -35,9 +29,7 @@ clean-rows [] qs a b = b
 clean-rows (r ∷ rs) qs a b = (a.0, a.1, clean-rows rs qs a.2 b)
 
 pub crew-lines : (list : List Member) → crew_text list ≡ clean_lines (crew_header ∷ map crew_fields list)
-crew-lines list =
-    ap (λ (t : List ℕ). t ++ flat_map (λ (m : Member). line (crew_fields m)) list) (line-same (codes "member") (codes "low" ∷ codes "high" ∷ []))
-    ∙ ap (λ (t : List ℕ). clean_line crew_header ++ t) (each-line crew_fields (λ m. line-same m.name (minutes_text m.low ∷ minutes_text m.high ∷ [])) list)
+crew-lines list = ap (λ (t : List ℕ). line crew_header ++ t) (each-line crew_fields list)
 
 -- the rows of a part of a member
 abbrev pub member_rows : Horizon → Part → Member → List (List (List ℕ))
@@ -48,12 +40,9 @@ module _ (h : Horizon) (part : Part) where
   rows-lines [] = refl
   rows-lines (m ∷ ms) =
       ap (λ (t : List ℕ). t ++ flat_map (events_of_member h part) ms)
-      (each-line (event_fields h m.name) (λ e. line-same m.name (kind_text e.kind ∷ (times_fields h e ++ flights_text h e.flights ∷ minutes_text e.credit ∷ []))) (part_of part m))
+      (each-line (event_fields h m.name) (part_of part m))
       ∙ ap (λ (t : List ℕ). clean_lines (member_rows h part m) ++ t) (rows-lines ms)
       ∙ sym (lines-append (member_rows h part m) (flat_map (member_rows h part) ms))
 
   pub events-lines : (list : List Member) → events_text h part list ≡ clean_lines (event_header ∷ flat_map (member_rows h part) list)
-  events-lines list =
-      ap (λ (t : List ℕ). t ++ flat_map (events_of_member h part) list)
-      (line-same (codes "member") (codes "kind" ∷ codes "report" ∷ codes "parked" ∷ codes "release" ∷ codes "legs" ∷ codes "credit" ∷ []))
-      ∙ ap (λ (t : List ℕ). clean_line event_header ++ t) (rows-lines list)
+  events-lines list = ap (λ (t : List ℕ). line event_header ++ t) (rows-lines list)

@@ -25,7 +25,8 @@ use Rattle.crew_files.specs.declared.part.Part.{Part}
 use Rattle.crew_files.specs.declared.part.Part.TheVariants.{History, Fixed}
 use Rattle.crew_files.specs.Crew.{crew_header, crew_row, crew_columns, has_name, is_named, new_member}
 use Rattle.crew_files.specs.Events.{event_header, event_row, event_checked, last_release, may_report, with_event, part_of, changed}
-use Rattle.crew_files.specs.Files.{records_of, crew_file, event_file, file_name, members_of}
+use Rattle.crew_files.specs.Files.{crew_file, event_file, file_name, members_of}
+use Rattle.field_text.specs.Records.{records_of}
 use Rattle.crew_files.specs.Limits.{most_events}
 use Rattle.crew_files.specs.Texts.{crew_fields, crew_text, event_fields, events_text}
 use Rattle.crew_files.proofs.Columns.{crew-all}

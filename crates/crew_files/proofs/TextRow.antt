@@ -5,7 +5,7 @@ use Rattle.std.specs.Str.{is_utf8}
 use Rattle.std.proofs.lemmas.Bool.Decides.{nat_tests}
 use Rattle.field_text.specs.declared.file_fault.FileCode.{FileCode}
 use Rattle.field_text.specs.declared.file_fault.FileCode.TheVariants.{Utf8, Width}
-use Rattle.crew_files.specs.Rows.{text_row}
+use Rattle.field_text.specs.Rows.{text_row}
 
 module _ {A : Type 0} (n : ℕ) (fields : List (List ℕ)) (read : Result A FileCode) where
   pub row-utf8 : list_all is_utf8 fields ≡ false → text_row n fields read ≡ Err Utf8

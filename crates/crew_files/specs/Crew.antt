@@ -6,10 +6,9 @@ use Rattle.duty_calendar.specs.declared.member.Member.{Member}
 use Rattle.field_text.specs.declared.file_fault.FileCode.{FileCode}
 use Rattle.field_text.specs.declared.file_fault.FileCode.TheVariants.{Duplicate, Order, Limit}
 use Rattle.field_text.specs.Fields.{name_field, minutes_field}
-use Rattle.field_text.specs.Rows.{in_column}
+use Rattle.field_text.specs.Rows.{in_column, text_row}
 use Rattle.field_text.specs.Steps.{◌>>=◌}
 use Rattle.crew_files.specs.Limits.{most_members, members_limit, most_credit, credit_limit}
-use Rattle.crew_files.specs.Rows.{text_row}
 
 abbrev pub crew_header : List (List ℕ)
 crew_header = codes "member" ∷ codes "low" ∷ codes "high" ∷ []
@@ -41,7 +40,11 @@ crew_columns before name low high = do
   u ← in_column 3 (minutes_field high)
   member_checked before n l u
 
+abbrev pub field_at : List (List ℕ) → ℕ → List ℕ
+field_at fields i = slice_index_or fields i []
+
 -- a row, after these members
 abbrev pub crew_row : List Member → List (List ℕ) → Result (List Member) FileCode
 crew_row before fields =
-    text_row 3 fields (crew_columns before (slice_index_or fields 0 []) (slice_index_or fields 1 []) (slice_index_or fields 2 []))
+    text_row 3 fields
+    (crew_columns before (field_at fields 0) (field_at fields 1) (field_at fields 2))

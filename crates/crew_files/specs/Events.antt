@@ -14,18 +14,18 @@ use Rattle.field_text.specs.declared.field_fault.FieldFault.TheVariants.{Empty, 
 use Rattle.field_text.specs.declared.file_fault.FileCode.{FileCode}
 use Rattle.field_text.specs.declared.file_fault.FileCode.TheVariants.{Unknown, Order, OutsideMonth, Limit}
 use Rattle.field_text.specs.Fields.{name_field, moment_field, minutes_field}
-use Rattle.field_text.specs.Rows.{in_column}
+use Rattle.field_text.specs.Rows.{in_column, text_row}
 use Rattle.field_text.specs.Steps.{◌>>=◌}
 use Rattle.crew_files.specs.declared.part.Part.{Part}
 use Rattle.crew_files.specs.declared.part.Part.TheVariants.{History, Fixed}
 use Rattle.crew_files.specs.Crew.{has_name}
 use Rattle.crew_files.specs.Flights.{flights_field}
 use Rattle.crew_files.specs.Limits.{most_flights, flights_limit, most_credit, credit_limit, most_events, events_limit}
-use Rattle.crew_files.specs.Rows.{text_row}
 
 abbrev pub event_header : List (List ℕ)
 event_header =
-    codes "member" ∷ codes "kind" ∷ codes "report" ∷ codes "parked" ∷ codes "release" ∷ codes "legs" ∷ codes "credit" ∷ []
+    codes "member" ∷ codes "kind" ∷ codes "report" ∷ codes "parked" ∷ codes "release"
+    ∷ codes "legs" ∷ codes "credit" ∷ []
 
 -- one of three words
 abbrev pub kind_field : List ℕ → Result Kind FieldFault
@@ -46,29 +46,44 @@ event_columns h fields = do
   release ← in_column 5 (moment_field h (slice_index_or fields 4 []))
   flights ← in_column 6 (flights_field h kind (slice_index_or fields 5 []))
   credit ← in_column 7 (minutes_field (slice_index_or fields 6 []))
-  Ok (name, record { kind = kind; report = report; parked = parked; release = release; flights = flights; credit = credit })
+  Ok (
+    name,
+    record {
+      kind = kind;
+      report = report;
+      parked = parked;
+      release = release;
+      flights = flights;
+      credit = credit;
+    },
+  )
 
--- whether each flight lasts and begins after a time and after the one before it, and none ends after another time
+-- whether each flight lasts and begins after a time and after the one before it, and none ends
+-- after another time
 unfoldable pub are_in_row : ℕ → ℕ → List Flown → Bool
 are_in_row start stop [] = true
 are_in_row start stop (f ∷ fs) =
-    nat_le start f.out_at && (nat_lt f.out_at f.in_at && (nat_le f.in_at stop && are_in_row f.in_at stop fs))
+    nat_le start f.out_at
+    && (nat_lt f.out_at f.in_at && (nat_le f.in_at stop && are_in_row f.in_at stop fs))
 
 -- whether the times of an event are in order
 abbrev pub times_fit : Event → Bool
 times_fit e = nat_le e.report e.parked && (nat_le e.parked e.release && nat_lt e.report e.release)
 
--- whether the flights of a flight event lie within it, or another event has none and is parked at its release
+-- whether the flights of a flight event lie within it, or another event has none and is parked at
+-- its release
 abbrev pub flights_fit : Event → Bool
 flights_fit e =
-    if is_flight e.kind then are_in_row e.report e.parked e.flights else (e.parked == e.release && length e.flights == 0)
+    if is_flight e.kind then are_in_row e.report e.parked e.flights else
+    (e.parked == e.release && length e.flights == 0)
 
 -- when the last of the events ends
 unfoldable pub last_release : List Event → ℕ
 last_release events = fold (λ before e. e.release) 0 events
 
 abbrev pub is_in_order : Member → Event → Bool
-is_in_order m e = times_fit e && (flights_fit e && nat_le (last_release (m.history ++ m.fixed)) e.report)
+is_in_order m e =
+    times_fit e && (flights_fit e && nat_le (last_release (m.history ++ m.fixed)) e.report)
 
 -- whether an event may report then: history before the month, fixed events in it
 abbrev pub may_report : Horizon → Part → ℕ → Bool
@@ -102,12 +117,15 @@ event_checked h part e m =
     else Ok (with_event part e m)
 
 -- the members, where the one of this name is changed
-unfoldable pub changed : List ℕ → (Member → Result Member FileCode) → List Member → Result (List Member) FileCode
+unfoldable pub changed : List ℕ → (Member → Result Member FileCode) → List Member
+    → Result (List Member) FileCode
 changed name change [] = Err Unknown
 changed name change (m ∷ ms) =
-    if has_name name m then (change m >>= (λ n. Ok (n ∷ ms))) else (changed name change ms >>= (λ ns. Ok (m ∷ ns)))
+    if has_name name m then (change m >>= (λ n. Ok (n ∷ ms))) else
+    (changed name change ms >>= (λ ns. Ok (m ∷ ns)))
 
 -- a row, after which these members have the events that the rows before it gave
 abbrev pub event_row : Horizon → Part → List Member → List (List ℕ) → Result (List Member) FileCode
 event_row h part members fields =
-    text_row 7 fields (event_columns h fields >>= (λ named. changed named.0 (event_checked h part named.1) members))
+    text_row 7 fields
+    (event_columns h fields >>= (λ named. changed named.0 (event_checked h part named.1) members))

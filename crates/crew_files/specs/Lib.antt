@@ -1,6 +1,5 @@
 pub mod Limits
 pub mod Flights
-pub mod Rows
 pub mod Crew
 pub mod Events
 pub mod Files

@@ -7,15 +7,15 @@ use Rattle.duty_calendar.specs.declared.event.Kind.{Kind}
 use Rattle.duty_calendar.specs.declared.event.Kind.TheVariants.{Flight, Ground, Leave}
 use Rattle.duty_calendar.specs.declared.horizon.Horizon.{Horizon}
 use Rattle.duty_calendar.specs.declared.member.Member.{Member}
+use Rattle.field_text.specs.Rows.{line}
 use Rattle.field_text.specs.Spelling.{minutes_text, moment_text}
 use Rattle.crew_files.specs.declared.part.Part.{Part}
 use Rattle.crew_files.specs.Crew.{crew_header}
 use Rattle.crew_files.specs.Events.{event_header, part_of}
 
--- fields joined by commas, and a line feed
-abbrev pub line : List (List ℕ) → List ℕ
-line [] = 10 ∷ []
-line (f ∷ fs) = f ++ flat_map (λ g. 44 ∷ g) fs ++ 10 ∷ []
+-- fields, each behind a comma
+abbrev pub behind_commas : List (List ℕ) → List ℕ
+behind_commas fields = flat_map (λ f. 44 ∷ f) fields
 
 -- the fields of a member
 abbrev pub crew_fields : Member → List (List ℕ)
@@ -40,7 +40,8 @@ times_fields h e = moment_text h e.report ∷ moment_text h e.parked ∷ moment_
 -- the fields of an event of the member of this name
 abbrev pub event_fields : Horizon → List ℕ → Event → List (List ℕ)
 event_fields h name e =
-    name ∷ kind_text e.kind ∷ (times_fields h e ++ flights_text h e.flights ∷ minutes_text e.credit ∷ [])
+    name ∷ kind_text e.kind
+    ∷ (times_fields h e ++ flights_text h e.flights ∷ minutes_text e.credit ∷ [])
 
 -- the three files: the header, and a line for each member or each event of each member
 abbrev pub crew_text : List Member → List ℕ
@@ -52,12 +53,16 @@ events_of_member h part m = flat_map (λ e. line (event_fields h m.name e)) (par
 abbrev pub events_text : Horizon → Part → List Member → List ℕ
 events_text h part members = line event_header ++ flat_map (events_of_member h part) members
 
--- no minute of an event lies behind the horizon
+-- no minute of a flight lies behind the horizon
+abbrev pub FlightEndsWithin : Horizon → Flown → Type 0
+FlightEndsWithin h f = (f.out_at ≤ horizon_end h) × (f.in_at ≤ horizon_end h)
+
+-- nor of an event
 pub record EndsWithin (h : Horizon) (e : Event) : Type 0 where
   pub report : e.report ≤ horizon_end h
   pub parked : e.parked ≤ horizon_end h
   pub release : e.release ≤ horizon_end h
-  pub flights : All (λ f. (f.out_at ≤ horizon_end h) × (f.in_at ≤ horizon_end h)) e.flights
+  pub flights : All (FlightEndsWithin h) e.flights
 
 -- nor of a member
 pub record LiesWithin (h : Horizon) (m : Member) : Type 0 where

@@ -13,7 +13,7 @@ use std::marker::Model;
 
 fn push(list: &mut List<Event>, event: Event) -> Result<(), FileCode>
     ensures ok { OnOk result (list.new ≡ list.old ++ event ∷ []) }
-    ensures err { OnErr result (list.new ≡ list.old) }
+    ensures fault { OnErr result (list.new ≡ list.old) }
     ensures memory { IfErr result (λ e. e ≡ NoMemory) }
 {
     match list.push(event) {
@@ -85,7 +85,7 @@ impl Crew {
     pub fn push(&mut self, alloc: Global, name: Name, low: u32, high: u32) -> Result<(), FileCode>
         requires new { is_named name self.old ≡ false }
         ensures ok { OnOk result (self.new ≡ self.old ++ new_member name low high ∷ []) }
-        ensures err { IfErr result (λ e. e ≡ NoMemory) }
+        ensures fault { IfErr result (λ e. e ≡ NoMemory) }
     {
         let Ok(key) = name.copy(alloc) else {
             return Err(FileCode::NoMemory);
@@ -111,7 +111,7 @@ impl Crew {
     pub fn add(&mut self, i: usize, part: Part, event: Event) -> Result<(), FileCode>
         requires within { i < length self.old }
         ensures ok { OnOk result (self.new ≡ with_event_at i part event self.old) }
-        ensures err { IfErr result (λ e. e ≡ NoMemory) }
+        ensures fault { IfErr result (λ e. e ≡ NoMemory) }
     {
         let member = &mut self.members[i];
         match part {

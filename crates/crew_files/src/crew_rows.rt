@@ -10,11 +10,11 @@ ghost use Rattle.crew_files.specs.Crew.{crew_header, crew_row, crew_columns, mem
 ghost use Rattle.crew_files.specs.Files.{crew_file};
 
 use crate::crew::Crew;
-use crate::rows::{at_row, field_is, in_column, next};
 use csv::ByteRecord;
 use duty_calendar::Name;
 use field_text::{
-    FileCode, FileFault, FileName, Records, as_text, read_minutes, read_name, text_at,
+    FileCode, FileFault, FileName, Records, as_text, at_row, field_is, in_column, next,
+    read_minutes, read_name, text_at,
 };
 use std::alloc::Global;
 
@@ -31,9 +31,10 @@ pub const CREDIT_LIMIT: u32 = 6;
 
 /// Whether a member may come after those that are there.
 fn check_member(crew: &Crew, name: &Name, low: u32, high: u32) -> Result<(), FileCode>
-    ensures ok { OnOk result (member_checked crew.now name.now low high ≡ Ok (crew.now ++ new_member name.now low high ∷ [])) }
+    ensures ok { OnOk result (member_checked crew.now name.now low high
+        ≡ Ok (crew.now ++ new_member name.now low high ∷ [])) }
     ensures new { OnOk result (is_named name.now crew.now ≡ false) }
-    ensures err { IfErr result (λ e. member_checked crew.now name.now low high ≡ Err e) }
+    ensures fault { IfErr result (λ e. member_checked crew.now name.now low high ≡ Err e) }
 {
     if crew.is_named(name) {
         return Err(FileCode::Duplicate);
@@ -62,7 +63,8 @@ fn add_member(
     requires low_short { length low.now ≤ longest }
     requires high_short { length high.now ≤ longest }
     ensures ok { OnOk result (crew_columns crew.old name.now low.now high.now ≡ Ok crew.new) }
-    ensures err { IfErr result (λ e. e ≢ NoMemory → crew_columns crew.old name.now low.now high.now ≡ Err e) }
+    ensures fault { IfErr result (λ e. e ≢ NoMemory
+        → crew_columns crew.old name.now low.now high.now ≡ Err e) }
 {
     let name = in_column(1, read_name(name))?;
     let low = in_column(2, read_minutes(low))?;
@@ -75,7 +77,7 @@ fn add_member(
 fn add_row(alloc: Global, crew: &mut Crew, raw: ByteRecord) -> Result<(), FileCode>
     requires short { AreWithin longest (fields_of raw) }
     ensures ok { OnOk result (crew_row crew.old (fields_of raw) ≡ Ok crew.new) }
-    ensures err { IfErr result (λ e. e ≢ NoMemory → crew_row crew.old (fields_of raw) ≡ Err e) }
+    ensures fault { IfErr result (λ e. e ≢ NoMemory → crew_row crew.old (fields_of raw) ≡ Err e) }
 {
     let row = as_text(raw)?;
     if row.len() != 3 {
@@ -94,8 +96,10 @@ fn add_row(alloc: Global, crew: &mut Crew, raw: ByteRecord) -> Result<(), FileCo
 fn read_rows(alloc: Global, crew: &mut Crew, records: &mut Records<'_>) -> Result<(), FileFault>
     requires few { length records.old ≤ longest }
     ensures ok { OnOk result (rows_from file.Crew crew_row 2 crew.old records.old ≡ Ok crew.new) }
-    ensures err { IfErr result (λ e. Fails e.code e (rows_from file.Crew crew_row 2 crew.old records.old)) }
+    ensures fault { IfErr result (λ e. Fails e.code e
+        (rows_from file.Crew crew_row 2 crew.old records.old)) }
     ensures no_row { IfErr result (λ e. e.code ≡ NoMemory → e.row ≡ 0) }
+    ensures named_file { IfErr result (λ e. e.file ≡ file.Crew) }
 {
     let mut row = 2;
     'rows: while let Some(record) = next(alloc, FileName::Crew, records)? {
@@ -127,8 +131,9 @@ fn is_header(row: &ByteRecord) -> bool
 pub fn read_crew(alloc: Global, text: &[u8], crew: &mut Crew) -> Result<(), FileFault>
     requires short { length text.now ≤ longest }
     ensures ok { OnOk result (crew_file text.now crew.old ≡ Ok crew.new) }
-    ensures err { IfErr result (λ e. Fails e.code e (crew_file text.now crew.old)) }
+    ensures fault { IfErr result (λ e. Fails e.code e (crew_file text.now crew.old)) }
     ensures no_row { IfErr result (λ e. e.code ≡ NoMemory → e.row ≡ 0) }
+    ensures named_file { IfErr result (λ e. e.file ≡ file.Crew) }
 {
     let mut records = Records::new(alloc, text);
     let Some(header) = next(alloc, FileName::Crew, &mut records)? else {

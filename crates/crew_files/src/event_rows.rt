@@ -14,12 +14,11 @@ use crate::crew::Crew;
 use crate::crew_rows::{CREDIT, CREDIT_LIMIT};
 use crate::flights::read_flights;
 use crate::part::Part;
-use crate::rows::{at_row, field_is, in_column, next};
 use csv::{ByteRecord, StringRecord};
 use duty_calendar::{Event, Flown, Horizon, Kind, List, Member, Name};
 use field_text::{
-    FieldFault, FileCode, FileFault, FileName, Records, as_text, read_minutes, read_moment,
-    read_name, text_at,
+    FieldFault, FileCode, FileFault, FileName, Records, as_text, at_row, field_is, in_column, next,
+    read_minutes, read_moment, read_name, text_at,
 };
 use std::alloc::Global;
 
@@ -84,7 +83,8 @@ fn times_fit(event: &Event) -> bool
     event.report < event.release
 }
 
-/// Whether the flights of a flight event lie within it, or another event has none and is parked at its release.
+/// Whether the flights of a flight event lie within it, or another event has none and is parked at
+/// its release.
 fn flights_fit(event: &Event) -> bool
     ensures value { result ≡ flights_fit event.now }
 {
@@ -180,8 +180,10 @@ fn check_event(
     event: &Event,
     member: &Member,
 ) -> Result<(), FileCode>
-    ensures ok { OnOk result (event_checked horizon.now part event.now member.now ≡ Ok (with_event part event.now member.now)) }
-    ensures err { IfErr result (λ e. event_checked horizon.now part event.now member.now ≡ Err e) }
+    ensures ok { OnOk result (event_checked horizon.now part event.now member.now
+        ≡ Ok (with_event part event.now member.now)) }
+    ensures fault { IfErr result (λ e. event_checked horizon.now part event.now member.now
+        ≡ Err e) }
 {
     if !is_in_order(member, event) {
         return Err(FileCode::Order);
@@ -210,8 +212,11 @@ fn place_of(
     event: &Event,
 ) -> Result<usize, FileCode>
     ensures within { IfOk result (λ i. i < length crew.now) }
-    ensures ok { IfOk result (λ i. changed name.now (event_checked horizon.now part event.now) crew.now ≡ Ok (with_event_at i part event.now crew.now)) }
-    ensures err { IfErr result (λ e. changed name.now (event_checked horizon.now part event.now) crew.now ≡ Err e) }
+    ensures ok { IfOk result (λ i. changed name.now
+        (event_checked horizon.now part event.now) crew.now
+        ≡ Ok (with_event_at i part event.now crew.now)) }
+    ensures fault { IfErr result (λ e. changed name.now
+        (event_checked horizon.now part event.now) crew.now ≡ Err e) }
 {
     let Some(i) = crew.find(name) else {
         return Err(FileCode::Unknown);
@@ -225,7 +230,8 @@ fn event_of(alloc: Global, row: &StringRecord, horizon: &Horizon) -> Result<(Nam
     requires width { length (fields_of row.now) ≡ 7 }
     requires short { AreWithin longest (fields_of row.now) }
     ensures ok { IfOk result (λ named. event_columns horizon.now (fields_of row.now) ≡ Ok named) }
-    ensures err { IfErr result (λ e. e ≢ NoMemory → event_columns horizon.now (fields_of row.now) ≡ Err e) }
+    ensures fault { IfErr result (λ e. e ≢ NoMemory → event_columns horizon.now (fields_of row.now)
+        ≡ Err e) }
 {
     let name = in_column(1, read_name(text_at(row, 0)))?;
     let kind = in_column(2, read_kind(text_at(row, 1)))?;
@@ -255,7 +261,8 @@ fn add_row(
 ) -> Result<(), FileCode>
     requires short { AreWithin longest (fields_of raw) }
     ensures ok { OnOk result (event_row horizon.now part crew.old (fields_of raw) ≡ Ok crew.new) }
-    ensures err { IfErr result (λ e. e ≢ NoMemory → event_row horizon.now part crew.old (fields_of raw) ≡ Err e) }
+    ensures fault { IfErr result (λ e. e ≢ NoMemory
+        → event_row horizon.now part crew.old (fields_of raw) ≡ Err e) }
 {
     let row = as_text(raw)?;
     if row.len() != 7 {
@@ -275,9 +282,12 @@ fn read_rows(
     records: &mut Records<'_>,
 ) -> Result<(), FileFault>
     requires few { length records.old ≤ longest }
-    ensures ok { OnOk result (rows_from (file_name part) (event_row horizon.now part) 2 crew.old records.old ≡ Ok crew.new) }
-    ensures err { IfErr result (λ e. Fails e.code e (rows_from (file_name part) (event_row horizon.now part) 2 crew.old records.old)) }
+    ensures ok { OnOk result (rows_from (file_name part)
+        (event_row horizon.now part) 2 crew.old records.old ≡ Ok crew.new) }
+    ensures fault { IfErr result (λ e. Fails e.code e
+        (rows_from (file_name part) (event_row horizon.now part) 2 crew.old records.old)) }
     ensures no_row { IfErr result (λ e. e.code ≡ NoMemory → e.row ≡ 0) }
+    ensures named_file { IfErr result (λ e. e.file ≡ file_name part) }
 {
     let file = file_name(part);
     let mut row = 2;
@@ -328,8 +338,10 @@ pub fn read_events(
 ) -> Result<(), FileFault>
     requires short { length text.now ≤ longest }
     ensures ok { OnOk result (event_file horizon.now part text.now crew.old ≡ Ok crew.new) }
-    ensures err { IfErr result (λ e. Fails e.code e (event_file horizon.now part text.now crew.old)) }
+    ensures fault { IfErr result (λ e. Fails e.code e
+        (event_file horizon.now part text.now crew.old)) }
     ensures no_row { IfErr result (λ e. e.code ≡ NoMemory → e.row ≡ 0) }
+    ensures named_file { IfErr result (λ e. e.file ≡ file_name part) }
 {
     let file = file_name(part);
     let mut records = Records::new(alloc, text);

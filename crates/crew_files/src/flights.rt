@@ -124,8 +124,9 @@ fn gather(
     fault: &mut Option<FieldFault>,
     found: Result<Flown, FieldFault>,
 ) -> Result<(), FileCode>
-    ensures ok { OnOk result (gathered fault.new flights.new ≡ joined followed (gathered fault.old flights.old) found) }
-    ensures err { IfErr result (λ e. e ≡ NoMemory) }
+    ensures ok { OnOk result (gathered fault.new flights.new
+        ≡ joined followed (gathered fault.old flights.old) found) }
+    ensures fault { IfErr result (λ e. e ≡ NoMemory) }
 {
     match found {
         Ok(flight) => match flights.push(flight) {
@@ -143,8 +144,10 @@ fn gather(
 fn flights_value(alloc: Global, text: &[u8], horizon: &Horizon) -> Result<List<Flown>, FileCode>
     requires whole { length text.now % 36 ≡ 35 }
     requires short { length text.now ≤ longest }
-    ensures ok { IfOk result (λ list. flights_value horizon.now ((length text.now + 1) / 36) text.now ≡ Ok list) }
-    ensures err { IfErr result (λ e. e ≢ NoMemory → in_column 6 (flights_value horizon.now ((length text.now + 1) / 36) text.now) ≡ Err e) }
+    ensures ok { IfOk result (λ list. flights_value horizon.now
+        ((length text.now + 1) / 36) text.now ≡ Ok list) }
+    ensures fault { IfErr result (λ e. e ≢ NoMemory
+        → in_column 6 (flights_value horizon.now ((length text.now + 1) / 36) text.now) ≡ Err e) }
 {
     let mut flights = List::new(alloc);
     let mut fault = None;
@@ -167,7 +170,8 @@ pub fn read_flights(
 ) -> Result<List<Flown>, FileCode>
     requires short { length text.now ≤ longest }
     ensures ok { IfOk result (λ list. flights_field horizon.now kind text.now ≡ Ok list) }
-    ensures err { IfErr result (λ e. e ≢ NoMemory → in_column 6 (flights_field horizon.now kind text.now) ≡ Err e) }
+    ensures fault { IfErr result (λ e. e ≢ NoMemory
+        → in_column 6 (flights_field horizon.now kind text.now) ≡ Err e) }
 {
     let bytes = text.as_bytes();
     if bytes.is_empty() {

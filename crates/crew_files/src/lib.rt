@@ -5,11 +5,12 @@ mod crew;
 mod crew_rows;
 mod event_rows;
 mod flights;
+mod laws;
 mod part;
 mod reading;
-mod rows;
 mod writing;
 
+pub use laws::flights_laws;
 pub use reading::read_members;
 pub use writing::{MemberTexts, put_members};
 

@@ -18,7 +18,8 @@ fn no_memory() -> FileFault {
     }
 }
 
-// June 2026 has 30 days; minute 0 is the begin of 1 June 2025. No text here is longer than a million bytes.
+// June 2026 has 30 days; minute 0 is the begin of 1 June 2025. No text here is longer than a
+// million bytes.
 fn read(
     alloc: Global,
     crew: &[u8],
@@ -63,218 +64,220 @@ fn joined(alloc: Global, head: &[u8], tail: &[u8]) -> Vec<u8> {
     text
 }
 
+static CREW_FAULTS: [(&[u8], u32, FileCode); 24] = [
+    (b"", 1, FileCode::Header),
+    (b"member,low\n", 1, FileCode::Header),
+    (b"member,low,high,x\n", 1, FileCode::Header),
+    (b"\xC3,low,high\n", 1, FileCode::Header),
+    (b"member,low,high\n", 1, FileCode::Empty),
+    (b"member,low,high\nM1,0:00\n", 2, FileCode::Width),
+    (b"member,low,high\nM1,0:00,1:00,\n", 2, FileCode::Width),
+    (b"member,low,high\n\xC3,0:00,90:00\n", 2, FileCode::Utf8),
+    (b"member,low,high\nM1,\xFF\n", 2, FileCode::Utf8),
+    (
+        b"member,low,high\nM 1,0:00,90:00\n",
+        2,
+        FileCode::Field(1, FieldFault::Shape(2)),
+    ),
+    (
+        b"member,low,high\n,0:60,x\n",
+        2,
+        FileCode::Field(1, FieldFault::Empty),
+    ),
+    (
+        b"member,low,high\nM1,0:60,x\n",
+        2,
+        FileCode::Field(2, FieldFault::Range),
+    ),
+    (
+        b"member,low,high\nM1,00:00,1:00\n",
+        2,
+        FileCode::Field(2, FieldFault::Shape(2)),
+    ),
+    (
+        b"member,low,high\nM1,0:00,1000:00\n",
+        2,
+        FileCode::Field(3, FieldFault::Shape(4)),
+    ),
+    (
+        b"member,low,high\nM1,0:00,\n",
+        2,
+        FileCode::Field(3, FieldFault::Empty),
+    ),
+    (
+        b"member,low,high\nM1,0:00,1:00\nM1,2:00,1:00\n",
+        3,
+        FileCode::Duplicate,
+    ),
+    (b"member,low,high\nM1,2:00,1:59\n", 2, FileCode::Order),
+    (b"member,low,high\nM1,300:00,200:01\n", 2, FileCode::Order),
+    (b"member,low,high\nM1,0:00,200:01\n", 2, FileCode::Limit(6)),
+    (
+        b"member,low,high\nM1,200:01,200:01\n",
+        2,
+        FileCode::Limit(6),
+    ),
+    (b"member,low,high\nM1,2:00,1:59\nM2\n", 2, FileCode::Order),
+    (
+        b"member,low,high\n\nM1,0:00,1:00\n\r\nM2\n",
+        3,
+        FileCode::Width,
+    ),
+    (
+        b"member,low,high\n\"M1\",0:00,1:00\rM1,0:00,1:00",
+        3,
+        FileCode::Duplicate,
+    ),
+    (
+        b"member,low,high\n\"M\n1\",0:00,1:00\n",
+        2,
+        FileCode::Field(1, FieldFault::Shape(2)),
+    ),
+];
+
 #[test]
 fn crew_faults(rt: HostRuntime) -> Result<(), Fail> {
     let alloc = rt.alloc();
-    let cases: [(&[u8], u32, FileCode); 24] = [
-        (b"", 1, FileCode::Header),
-        (b"member,low\n", 1, FileCode::Header),
-        (b"member,low,high,x\n", 1, FileCode::Header),
-        (b"\xC3,low,high\n", 1, FileCode::Header),
-        (b"member,low,high\n", 1, FileCode::Empty),
-        (b"member,low,high\nM1,0:00\n", 2, FileCode::Width),
-        (b"member,low,high\nM1,0:00,1:00,\n", 2, FileCode::Width),
-        (b"member,low,high\n\xC3,0:00,90:00\n", 2, FileCode::Utf8),
-        (b"member,low,high\nM1,\xFF\n", 2, FileCode::Utf8),
-        (
-            b"member,low,high\nM 1,0:00,90:00\n",
-            2,
-            FileCode::Field(1, FieldFault::Shape(2)),
-        ),
-        (
-            b"member,low,high\n,0:60,x\n",
-            2,
-            FileCode::Field(1, FieldFault::Empty),
-        ),
-        (
-            b"member,low,high\nM1,0:60,x\n",
-            2,
-            FileCode::Field(2, FieldFault::Range),
-        ),
-        (
-            b"member,low,high\nM1,00:00,1:00\n",
-            2,
-            FileCode::Field(2, FieldFault::Shape(2)),
-        ),
-        (
-            b"member,low,high\nM1,0:00,1000:00\n",
-            2,
-            FileCode::Field(3, FieldFault::Shape(4)),
-        ),
-        (
-            b"member,low,high\nM1,0:00,\n",
-            2,
-            FileCode::Field(3, FieldFault::Empty),
-        ),
-        (
-            b"member,low,high\nM1,0:00,1:00\nM1,2:00,1:00\n",
-            3,
-            FileCode::Duplicate,
-        ),
-        (b"member,low,high\nM1,2:00,1:59\n", 2, FileCode::Order),
-        (b"member,low,high\nM1,300:00,200:01\n", 2, FileCode::Order),
-        (b"member,low,high\nM1,0:00,200:01\n", 2, FileCode::Limit(6)),
-        (
-            b"member,low,high\nM1,200:01,200:01\n",
-            2,
-            FileCode::Limit(6),
-        ),
-        (b"member,low,high\nM1,2:00,1:59\nM2\n", 2, FileCode::Order),
-        (
-            b"member,low,high\n\nM1,0:00,1:00\n\r\nM2\n",
-            3,
-            FileCode::Width,
-        ),
-        (
-            b"member,low,high\n\"M1\",0:00,1:00\rM1,0:00,1:00",
-            3,
-            FileCode::Duplicate,
-        ),
-        (
-            b"member,low,high\n\"M\n1\",0:00,1:00\n",
-            2,
-            FileCode::Field(1, FieldFault::Shape(2)),
-        ),
-    ];
-    for (text, row, code) in cases {
+    for (text, row, code) in CREW_FAULTS {
         assert!(rt; fails(alloc, text, NONE, NONE, FileName::Crew, row, code));
     }
     Ok(())
 }
 
+static HISTORY_FAULTS: [(&[u8], FileCode); 33] = [
+    (
+        b"M3,leave,2026-05-01T08:00Z,2026-05-01T09:00Z,2026-05-01T09:00Z,,0:00\n",
+        FileCode::Unknown,
+    ),
+    (
+        b"M1,leave,2026-05-01T08:00Z,2026-05-01T09:00Z,2026-05-01T09:00Z,,0:00,\n",
+        FileCode::Width,
+    ),
+    (
+        b"M1,leave,2026-05-01T08:00Z,2026-05-01T09:00Z,\xC0,,0:00\n",
+        FileCode::Utf8,
+    ),
+    (b",leave,x,x,x,x,x\n", FileCode::Field(1, FieldFault::Empty)),
+    (b"M1,,x,x,x,x,x\n", FileCode::Field(2, FieldFault::Empty)),
+    (
+        b"M1,Leave,x,x,x,x,x\n",
+        FileCode::Field(2, FieldFault::Shape(1)),
+    ),
+    (
+        b"M1,leave,x,x,x,x,x\n",
+        FileCode::Field(3, FieldFault::Shape(1)),
+    ),
+    (
+        b"M1,leave,2026-05-01T08:00,x,x,x,x\n",
+        FileCode::Field(3, FieldFault::Shape(17)),
+    ),
+    (
+        b"M1,leave,2026-05-01T24:00Z,x,x,x,x\n",
+        FileCode::Field(3, FieldFault::Range),
+    ),
+    (
+        b"M1,leave,2026-02-29T08:60Z,x,x,x,x\n",
+        FileCode::Field(3, FieldFault::Range),
+    ),
+    (
+        b"M1,leave,2026-02-29T08:00Z,x,x,x,x\n",
+        FileCode::Field(3, FieldFault::NoSuchDay),
+    ),
+    (
+        b"M1,leave,2025-05-31T23:59Z,x,x,x,x\n",
+        FileCode::Field(3, FieldFault::OutsideHorizon),
+    ),
+    (
+        b"M1,leave,2025-06-01T00:00Z,x,x,x,x\n",
+        FileCode::Field(4, FieldFault::Shape(1)),
+    ),
+    (
+        b"M1,leave,2026-05-01T08:00Z,2026-05-01T09:00Z,2026-07-08T00:01Z,,0:00\n",
+        FileCode::Field(5, FieldFault::OutsideHorizon),
+    ),
+    (
+        b"M1,flight,2026-05-01T08:00Z,2026-05-01T14:00Z,2026-05-01T14:30Z,,x\n",
+        FileCode::Field(6, FieldFault::Empty),
+    ),
+    (
+        b"M1,flight,2026-05-01T08:00Z,2026-05-01T14:00Z,2026-05-01T14:30Z,2026-05-01T09:00Z,x\n",
+        FileCode::Field(6, FieldFault::Shape(18)),
+    ),
+    (
+        b"M1,flight,2026-05-01T08:00Z,2026-05-01T14:00Z,2026-05-01T14:30Z,2026-05-01T09:00Z/2026-05-01T10:00Z ,x\n",
+        FileCode::Field(6, FieldFault::Shape(37)),
+    ),
+    (
+        b"M1,flight,2026-05-01T08:00Z,2026-05-01T14:00Z,2026-05-01T14:30Z,2026-05-01T09:00Z/2026-05-01T30:00Z  2026-05-01T11:00Z/2026-05-01T12:00Z,x\n",
+        FileCode::Field(6, FieldFault::Shape(37)),
+    ),
+    (
+        b"M1,flight,2026-05-01T08:00Z,2026-05-01T14:00Z,2026-05-01T14:30Z,2026-02-30T09:00Z/2024-05-01T10:00Z 2026-05-01T11:00Z/2026-05-01T12:60Z,x\n",
+        FileCode::Field(6, FieldFault::Range),
+    ),
+    (
+        b"M1,flight,2026-05-01T08:00Z,2026-05-01T14:00Z,2026-05-01T14:30Z,2024-05-01T09:00Z/2026-05-01T10:00Z 2026-13-01T11:00Z/2026-05-01T12:00Z,x\n",
+        FileCode::Field(6, FieldFault::NoSuchDay),
+    ),
+    (
+        b"M1,ground,2026-05-01T08:00Z,2026-05-01T14:30Z,2026-05-01T14:30Z,2026-05-01T09:00Z/2027-05-01T10:00Z,x\n",
+        FileCode::Field(6, FieldFault::OutsideHorizon),
+    ),
+    (
+        b"M1,ground,2026-05-01T08:00Z,2026-05-01T14:00Z,2026-05-01T14:30Z,,x\n",
+        FileCode::Field(7, FieldFault::Shape(1)),
+    ),
+    (
+        b"M1,ground,2026-05-01T08:00Z,2026-05-01T14:00Z,2026-05-01T14:30Z,,0:00\n",
+        FileCode::Order,
+    ),
+    (
+        b"M1,ground,2026-05-01T08:00Z,2026-05-01T14:30Z,2026-05-01T14:30Z,2026-05-01T09:00Z/2026-05-01T10:00Z,0:00\n",
+        FileCode::Order,
+    ),
+    (
+        b"M1,leave,2026-06-01T08:00Z,2026-06-01T08:00Z,2026-06-01T08:00Z,,0:00\n",
+        FileCode::Order,
+    ),
+    (
+        b"M1,flight,2026-05-01T08:00Z,2026-05-01T07:00Z,2026-05-01T14:30Z,2026-05-01T09:00Z/2026-05-01T10:00Z,0:00\n",
+        FileCode::Order,
+    ),
+    (
+        b"M1,flight,2026-05-01T08:00Z,2026-05-01T14:00Z,2026-05-01T14:30Z,2026-05-01T07:59Z/2026-05-01T10:00Z,0:00\n",
+        FileCode::Order,
+    ),
+    (
+        b"M1,flight,2026-05-01T08:00Z,2026-05-01T14:00Z,2026-05-01T14:30Z,2026-05-01T09:00Z/2026-05-01T09:00Z,0:00\n",
+        FileCode::Order,
+    ),
+    (
+        b"M1,flight,2026-05-01T08:00Z,2026-05-01T14:00Z,2026-05-01T14:30Z,2026-05-01T09:00Z/2026-05-01T14:01Z,0:00\n",
+        FileCode::Order,
+    ),
+    (
+        b"M1,flight,2026-05-01T08:00Z,2026-05-01T14:00Z,2026-05-01T14:30Z,2026-05-01T11:00Z/2026-05-01T12:00Z 2026-05-01T09:00Z/2026-05-01T10:00Z,0:00\n",
+        FileCode::Order,
+    ),
+    (
+        b"M1,leave,2026-06-01T00:00Z,2026-06-01T08:00Z,2026-06-01T08:00Z,,0:00\n",
+        FileCode::OutsideMonth,
+    ),
+    (
+        b"M1,leave,2026-05-01T08:00Z,2026-05-01T09:00Z,2026-05-01T09:00Z,,200:01\n",
+        FileCode::Limit(6),
+    ),
+    (
+        b"M1,flight,2026-05-01T08:00Z,2026-05-01T14:00Z,2026-05-01T14:30Z,2026-05-01T08:00Z/2026-05-01T08:01Z 2026-05-01T08:01Z/2026-05-01T08:02Z 2026-05-01T08:02Z/2026-05-01T08:03Z 2026-05-01T08:03Z/2026-05-01T08:04Z 2026-05-01T08:04Z/2026-05-01T08:05Z 2026-05-01T08:05Z/2026-05-01T08:06Z 2026-05-01T08:06Z/2026-05-01T08:07Z 2026-05-01T08:07Z/2026-05-01T08:08Z 2026-05-01T08:08Z/2026-05-01T08:09Z,200:01\n",
+        FileCode::Limit(4),
+    ),
+];
+
 // A row of history.csv, and what it answers.
 #[test]
 fn history_faults(rt: HostRuntime) -> Result<(), Fail> {
     let alloc = rt.alloc();
-    let cases: [(&[u8], FileCode); 33] = [
-        (
-            b"M3,leave,2026-05-01T08:00Z,2026-05-01T09:00Z,2026-05-01T09:00Z,,0:00\n",
-            FileCode::Unknown,
-        ),
-        (
-            b"M1,leave,2026-05-01T08:00Z,2026-05-01T09:00Z,2026-05-01T09:00Z,,0:00,\n",
-            FileCode::Width,
-        ),
-        (
-            b"M1,leave,2026-05-01T08:00Z,2026-05-01T09:00Z,\xC0,,0:00\n",
-            FileCode::Utf8,
-        ),
-        (b",leave,x,x,x,x,x\n", FileCode::Field(1, FieldFault::Empty)),
-        (b"M1,,x,x,x,x,x\n", FileCode::Field(2, FieldFault::Empty)),
-        (
-            b"M1,Leave,x,x,x,x,x\n",
-            FileCode::Field(2, FieldFault::Shape(1)),
-        ),
-        (
-            b"M1,leave,x,x,x,x,x\n",
-            FileCode::Field(3, FieldFault::Shape(1)),
-        ),
-        (
-            b"M1,leave,2026-05-01T08:00,x,x,x,x\n",
-            FileCode::Field(3, FieldFault::Shape(17)),
-        ),
-        (
-            b"M1,leave,2026-05-01T24:00Z,x,x,x,x\n",
-            FileCode::Field(3, FieldFault::Range),
-        ),
-        (
-            b"M1,leave,2026-02-29T08:60Z,x,x,x,x\n",
-            FileCode::Field(3, FieldFault::Range),
-        ),
-        (
-            b"M1,leave,2026-02-29T08:00Z,x,x,x,x\n",
-            FileCode::Field(3, FieldFault::NoSuchDay),
-        ),
-        (
-            b"M1,leave,2025-05-31T23:59Z,x,x,x,x\n",
-            FileCode::Field(3, FieldFault::OutsideHorizon),
-        ),
-        (
-            b"M1,leave,2025-06-01T00:00Z,x,x,x,x\n",
-            FileCode::Field(4, FieldFault::Shape(1)),
-        ),
-        (
-            b"M1,leave,2026-05-01T08:00Z,2026-05-01T09:00Z,2026-07-08T00:01Z,,0:00\n",
-            FileCode::Field(5, FieldFault::OutsideHorizon),
-        ),
-        (
-            b"M1,flight,2026-05-01T08:00Z,2026-05-01T14:00Z,2026-05-01T14:30Z,,x\n",
-            FileCode::Field(6, FieldFault::Empty),
-        ),
-        (
-            b"M1,flight,2026-05-01T08:00Z,2026-05-01T14:00Z,2026-05-01T14:30Z,2026-05-01T09:00Z,x\n",
-            FileCode::Field(6, FieldFault::Shape(18)),
-        ),
-        (
-            b"M1,flight,2026-05-01T08:00Z,2026-05-01T14:00Z,2026-05-01T14:30Z,2026-05-01T09:00Z/2026-05-01T10:00Z ,x\n",
-            FileCode::Field(6, FieldFault::Shape(37)),
-        ),
-        (
-            b"M1,flight,2026-05-01T08:00Z,2026-05-01T14:00Z,2026-05-01T14:30Z,2026-05-01T09:00Z/2026-05-01T30:00Z  2026-05-01T11:00Z/2026-05-01T12:00Z,x\n",
-            FileCode::Field(6, FieldFault::Shape(37)),
-        ),
-        (
-            b"M1,flight,2026-05-01T08:00Z,2026-05-01T14:00Z,2026-05-01T14:30Z,2026-02-30T09:00Z/2024-05-01T10:00Z 2026-05-01T11:00Z/2026-05-01T12:60Z,x\n",
-            FileCode::Field(6, FieldFault::Range),
-        ),
-        (
-            b"M1,flight,2026-05-01T08:00Z,2026-05-01T14:00Z,2026-05-01T14:30Z,2024-05-01T09:00Z/2026-05-01T10:00Z 2026-13-01T11:00Z/2026-05-01T12:00Z,x\n",
-            FileCode::Field(6, FieldFault::NoSuchDay),
-        ),
-        (
-            b"M1,ground,2026-05-01T08:00Z,2026-05-01T14:30Z,2026-05-01T14:30Z,2026-05-01T09:00Z/2027-05-01T10:00Z,x\n",
-            FileCode::Field(6, FieldFault::OutsideHorizon),
-        ),
-        (
-            b"M1,ground,2026-05-01T08:00Z,2026-05-01T14:00Z,2026-05-01T14:30Z,,x\n",
-            FileCode::Field(7, FieldFault::Shape(1)),
-        ),
-        (
-            b"M1,ground,2026-05-01T08:00Z,2026-05-01T14:00Z,2026-05-01T14:30Z,,0:00\n",
-            FileCode::Order,
-        ),
-        (
-            b"M1,ground,2026-05-01T08:00Z,2026-05-01T14:30Z,2026-05-01T14:30Z,2026-05-01T09:00Z/2026-05-01T10:00Z,0:00\n",
-            FileCode::Order,
-        ),
-        (
-            b"M1,leave,2026-06-01T08:00Z,2026-06-01T08:00Z,2026-06-01T08:00Z,,0:00\n",
-            FileCode::Order,
-        ),
-        (
-            b"M1,flight,2026-05-01T08:00Z,2026-05-01T07:00Z,2026-05-01T14:30Z,2026-05-01T09:00Z/2026-05-01T10:00Z,0:00\n",
-            FileCode::Order,
-        ),
-        (
-            b"M1,flight,2026-05-01T08:00Z,2026-05-01T14:00Z,2026-05-01T14:30Z,2026-05-01T07:59Z/2026-05-01T10:00Z,0:00\n",
-            FileCode::Order,
-        ),
-        (
-            b"M1,flight,2026-05-01T08:00Z,2026-05-01T14:00Z,2026-05-01T14:30Z,2026-05-01T09:00Z/2026-05-01T09:00Z,0:00\n",
-            FileCode::Order,
-        ),
-        (
-            b"M1,flight,2026-05-01T08:00Z,2026-05-01T14:00Z,2026-05-01T14:30Z,2026-05-01T09:00Z/2026-05-01T14:01Z,0:00\n",
-            FileCode::Order,
-        ),
-        (
-            b"M1,flight,2026-05-01T08:00Z,2026-05-01T14:00Z,2026-05-01T14:30Z,2026-05-01T11:00Z/2026-05-01T12:00Z 2026-05-01T09:00Z/2026-05-01T10:00Z,0:00\n",
-            FileCode::Order,
-        ),
-        (
-            b"M1,leave,2026-06-01T00:00Z,2026-06-01T08:00Z,2026-06-01T08:00Z,,0:00\n",
-            FileCode::OutsideMonth,
-        ),
-        (
-            b"M1,leave,2026-05-01T08:00Z,2026-05-01T09:00Z,2026-05-01T09:00Z,,200:01\n",
-            FileCode::Limit(6),
-        ),
-        (
-            b"M1,flight,2026-05-01T08:00Z,2026-05-01T14:00Z,2026-05-01T14:30Z,2026-05-01T08:00Z/2026-05-01T08:01Z 2026-05-01T08:01Z/2026-05-01T08:02Z 2026-05-01T08:02Z/2026-05-01T08:03Z 2026-05-01T08:03Z/2026-05-01T08:04Z 2026-05-01T08:04Z/2026-05-01T08:05Z 2026-05-01T08:05Z/2026-05-01T08:06Z 2026-05-01T08:06Z/2026-05-01T08:07Z 2026-05-01T08:07Z/2026-05-01T08:08Z 2026-05-01T08:08Z/2026-05-01T08:09Z,200:01\n",
-            FileCode::Limit(4),
-        ),
-    ];
-    for (text, code) in cases {
+    for (text, code) in HISTORY_FAULTS {
         assert!(rt;
             fails(
                 alloc,
@@ -290,46 +293,48 @@ fn history_faults(rt: HostRuntime) -> Result<(), Fail> {
     Ok(())
 }
 
+static LATER_FAULTS: [(&[u8], u32, FileCode); 8] = [
+    (
+        b"M1,leave,2026-06-01T08:59Z,2026-06-02T09:00Z,2026-06-02T09:00Z,,0:00\n",
+        2,
+        FileCode::Order,
+    ),
+    (
+        b"M2,leave,2026-06-01T08:59Z,2026-06-02T09:00Z,2026-06-02T09:00Z,,0:00\nM1,leave,2026-06-01T09:00Z,2026-06-02T09:00Z,2026-06-02T09:00Z,,0:00\nM1,leave,2026-06-02T08:59Z,2026-06-03T09:00Z,2026-06-03T09:00Z,,0:00\n",
+        4,
+        FileCode::Order,
+    ),
+    (
+        b"M2,leave,2026-05-31T23:59Z,2026-06-02T09:00Z,2026-06-02T09:00Z,,0:00\n",
+        2,
+        FileCode::OutsideMonth,
+    ),
+    (
+        b"M2,leave,2026-07-01T00:00Z,2026-07-02T09:00Z,2026-07-02T09:00Z,,0:00\n",
+        2,
+        FileCode::OutsideMonth,
+    ),
+    (
+        b"M2,leave,2026-06-30T23:59Z,2026-07-08T00:00Z,2026-07-08T00:00Z,,0:00\nM3,leave,2026-06-30T23:59Z,2026-07-08T00:00Z,2026-07-08T00:00Z,,0:00\n",
+        3,
+        FileCode::Unknown,
+    ),
+    (
+        b"M2,leave,2026-06-01T08:59Z,2026-06-02T09:00Z,2026-06-02T09:00Z,,300:00\n",
+        2,
+        FileCode::Limit(6),
+    ),
+    (b"\nM2,\xC3\n", 2, FileCode::Utf8),
+    (b"M2\r\n", 2, FileCode::Width),
+];
+
+static LEAVE: &[u8] = b"M1,leave,2026-05-01T08:00Z,2026-06-01T09:00Z,2026-06-01T09:00Z,,0:00\n";
+
 #[test]
-fn faults_of_later_rows_and_files(rt: HostRuntime) -> Result<(), Fail> {
+fn faults_of_later_rows(rt: HostRuntime) -> Result<(), Fail> {
     let alloc = rt.alloc();
-    let leave = b"M1,leave,2026-05-01T08:00Z,2026-06-01T09:00Z,2026-06-01T09:00Z,,0:00\n";
-    let past = joined(alloc, NONE, leave);
-    let cases: [(&[u8], u32, FileCode); 8] = [
-        (
-            b"M1,leave,2026-06-01T08:59Z,2026-06-02T09:00Z,2026-06-02T09:00Z,,0:00\n",
-            2,
-            FileCode::Order,
-        ),
-        (
-            b"M2,leave,2026-06-01T08:59Z,2026-06-02T09:00Z,2026-06-02T09:00Z,,0:00\nM1,leave,2026-06-01T09:00Z,2026-06-02T09:00Z,2026-06-02T09:00Z,,0:00\nM1,leave,2026-06-02T08:59Z,2026-06-03T09:00Z,2026-06-03T09:00Z,,0:00\n",
-            4,
-            FileCode::Order,
-        ),
-        (
-            b"M2,leave,2026-05-31T23:59Z,2026-06-02T09:00Z,2026-06-02T09:00Z,,0:00\n",
-            2,
-            FileCode::OutsideMonth,
-        ),
-        (
-            b"M2,leave,2026-07-01T00:00Z,2026-07-02T09:00Z,2026-07-02T09:00Z,,0:00\n",
-            2,
-            FileCode::OutsideMonth,
-        ),
-        (
-            b"M2,leave,2026-06-30T23:59Z,2026-07-08T00:00Z,2026-07-08T00:00Z,,0:00\nM3,leave,2026-06-30T23:59Z,2026-07-08T00:00Z,2026-07-08T00:00Z,,0:00\n",
-            3,
-            FileCode::Unknown,
-        ),
-        (
-            b"M2,leave,2026-06-01T08:59Z,2026-06-02T09:00Z,2026-06-02T09:00Z,,300:00\n",
-            2,
-            FileCode::Limit(6),
-        ),
-        (b"\nM2,\xC3\n", 2, FileCode::Utf8),
-        (b"M2\r\n", 2, FileCode::Width),
-    ];
-    for (text, row, code) in cases {
+    let past = joined(alloc, NONE, LEAVE);
+    for (text, row, code) in LATER_FAULTS {
         assert!(rt;
             fails(
                 alloc,
@@ -342,6 +347,13 @@ fn faults_of_later_rows_and_files(rt: HostRuntime) -> Result<(), Fail> {
             )
         );
     }
+    Ok(())
+}
+
+#[test]
+fn first_file_at_fault(rt: HostRuntime) -> Result<(), Fail> {
+    let alloc = rt.alloc();
+    let past = joined(alloc, NONE, LEAVE);
     assert!(rt;
         fails(
             alloc,
@@ -386,7 +398,14 @@ fn faults_of_later_rows_and_files(rt: HostRuntime) -> Result<(), Fail> {
             FileCode::Header
         )
     );
-    let twice = joined(alloc, past.as_slice(), leave);
+    Ok(())
+}
+
+#[test]
+fn same_event_twice(rt: HostRuntime) -> Result<(), Fail> {
+    let alloc = rt.alloc();
+    let past = joined(alloc, NONE, LEAVE);
+    let twice = joined(alloc, past.as_slice(), LEAVE);
     assert!(rt;
         fails(
             alloc,
@@ -443,7 +462,7 @@ fn many_events(alloc: Global, month: &[u8], count: u32) -> Vec<u8> {
 }
 
 #[test]
-fn limits(rt: HostRuntime) -> Result<(), Fail> {
+fn limit_of_members(rt: HostRuntime) -> Result<(), Fail> {
     let alloc = rt.alloc();
     let most = many_members(alloc, 200);
     assert!(rt; read(alloc, most.as_slice(), NONE, NONE).is_ok());
@@ -459,6 +478,12 @@ fn limits(rt: HostRuntime) -> Result<(), Fail> {
             FileCode::Limit(1)
         )
     );
+    Ok(())
+}
+
+#[test]
+fn limits_of_events(rt: HostRuntime) -> Result<(), Fail> {
+    let alloc = rt.alloc();
     let past = many_events(alloc, b"2026-05-", 500);
     let coming = many_events(alloc, b"2026-06-", 60);
     assert!(rt; read(alloc, CREW, past.as_slice(), coming.as_slice()).is_ok());

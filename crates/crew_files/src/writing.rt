@@ -5,7 +5,8 @@ ghost use Rattle.duty_calendar.specs.Calendar.{horizon_end};
 ghost use Rattle.duty_calendar.specs.Checks.{AreMembers};
 ghost use Rattle.crew_files.specs.declared.part.Part.TheVariants.{History, Fixed};
 ghost use Rattle.crew_files.specs.Files.{members_of};
-ghost use Rattle.crew_files.specs.Texts.{line, crew_fields, kind_text, times_fields, flight_text, flights_text, event_fields, crew_text, events_of_member, events_text, EndsWithin, LiesWithin};
+ghost use Rattle.crew_files.specs.Texts.{crew_fields, kind_text, times_fields, flight_text, flights_text, event_fields, crew_text, events_of_member, events_text, behind_commas, FlightEndsWithin, EndsWithin, LiesWithin};
+ghost use Rattle.field_text.specs.Rows.{line};
 ghost use Rattle.std.specs.List.{flat_map};
 
 use crate::part::Part;
@@ -53,8 +54,9 @@ fn put_flight(out: &mut List<u8>, flight: &Flown, horizon: &Horizon) -> Result<(
 }
 
 fn put_later_flights(out: &mut List<u8>, flights: &[Flown], horizon: &Horizon) -> Result<(), Memory>
-    requires within { All (λ f. (f.out_at ≤ horizon_end horizon.now) × (f.in_at ≤ horizon_end horizon.now)) flights.now }
-    ensures whole { OnOk result (out.new ≡ out.old ++ flat_map (λ g. 32 ∷ flight_text horizon.now g) flights.now) }
+    requires within { All (FlightEndsWithin horizon.now) flights.now }
+    ensures whole { OnOk result (out.new ≡ out.old
+        ++ flat_map (λ g. 32 ∷ flight_text horizon.now g) flights.now) }
 {
     for flight in flights {
         put_bytes(out, b" ")?;
@@ -64,7 +66,7 @@ fn put_later_flights(out: &mut List<u8>, flights: &[Flown], horizon: &Horizon) -
 }
 
 fn put_flights(out: &mut List<u8>, flights: &[Flown], horizon: &Horizon) -> Result<(), Memory>
-    requires within { All (λ f. (f.out_at ≤ horizon_end horizon.now) × (f.in_at ≤ horizon_end horizon.now)) flights.now }
+    requires within { All (FlightEndsWithin horizon.now) flights.now }
     ensures whole { OnOk result (out.new ≡ out.old ++ flights_text horizon.now flights.now) }
 {
     let Some((first, rest)) = flights.split_first() else {
@@ -77,7 +79,8 @@ fn put_flights(out: &mut List<u8>, flights: &[Flown], horizon: &Horizon) -> Resu
 /// Appends report, parked and release, each behind a comma.
 fn put_times(out: &mut List<u8>, event: &Event, horizon: &Horizon) -> Result<(), Memory>
     requires within { EndsWithin horizon.now event.now }
-    ensures whole { OnOk result (out.new ≡ out.old ++ flat_map (λ g. 44 ∷ g) (times_fields horizon.now event.now)) }
+    ensures whole { OnOk result (out.new ≡ out.old
+        ++ behind_commas (times_fields horizon.now event.now)) }
 {
     put_bytes(out, b",")?;
     put_moment(out, event.report, horizon)?;
@@ -95,7 +98,9 @@ fn put_begin(
     horizon: &Horizon,
 ) -> Result<(), Memory>
     requires within { EndsWithin horizon.now event.now }
-    ensures whole { OnOk result (out.new ≡ out.old ++ (name.now ++ flat_map (λ g. 44 ∷ g) (kind_text event.now.kind ∷ times_fields horizon.now event.now))) }
+    ensures whole { OnOk result (out.new ≡ out.old
+        ++ (name.now
+        ++ behind_commas (kind_text event.now.kind ∷ times_fields horizon.now event.now))) }
 {
     put_bytes(out, name.bytes())?;
     put_bytes(out, b",")?;
@@ -106,7 +111,9 @@ fn put_begin(
 /// Appends an event's line from its flights on.
 fn put_end(out: &mut List<u8>, event: &Event, horizon: &Horizon) -> Result<(), Memory>
     requires within { EndsWithin horizon.now event.now }
-    ensures whole { OnOk result (out.new ≡ out.old ++ (flat_map (λ g. 44 ∷ g) (flights_text horizon.now event.now.flights ∷ minutes_text event.now.credit ∷ []) ++ 10 ∷ [])) }
+    ensures whole { OnOk result (out.new ≡ out.old
+        ++ (behind_commas (flights_text horizon.now event.now.flights
+        ∷ minutes_text event.now.credit ∷ []) ++ 10 ∷ [])) }
 {
     put_bytes(out, b",")?;
     put_flights(out, event.flights.as_slice(), horizon)?;
@@ -122,7 +129,8 @@ fn put_event(
     horizon: &Horizon,
 ) -> Result<(), Memory>
     requires within { EndsWithin horizon.now event.now }
-    ensures whole { OnOk result (out.new ≡ out.old ++ line (event_fields horizon.now name.now event.now)) }
+    ensures whole { OnOk result (out.new ≡ out.old
+        ++ line (event_fields horizon.now name.now event.now)) }
 {
     put_begin(out, name, event, horizon)?;
     put_end(out, event, horizon)
@@ -135,7 +143,8 @@ fn put_events(
     horizon: &Horizon,
 ) -> Result<(), Memory>
     requires within { All (EndsWithin horizon.now) events.now }
-    ensures whole { OnOk result (out.new ≡ out.old ++ flat_map (λ e. line (event_fields horizon.now name.now e)) events.now) }
+    ensures whole { OnOk result (out.new ≡ out.old
+        ++ flat_map (λ e. line (event_fields horizon.now name.now e)) events.now) }
 {
     for event in events {
         put_event(out, name, event, horizon)?;
@@ -150,7 +159,8 @@ fn put_part_of(
     horizon: &Horizon,
 ) -> Result<(), Memory>
     requires within { LiesWithin horizon.now member.now }
-    ensures whole { OnOk result (out.new ≡ out.old ++ events_of_member horizon.now part member.now) }
+    ensures whole { OnOk result (out.new ≡ out.old
+        ++ events_of_member horizon.now part member.now) }
 {
     match part {
         Part::History => put_events(out, &member.name, member.history.as_slice(), horizon),
@@ -186,13 +196,16 @@ fn put_part(
     Ok(out)
 }
 
-/// The files that give these members: a line for each member in order, and one for each event of each member.
+/// The files that give these members: a line for each member in order, and one for each event of
+/// each member.
 pub fn put_members(alloc: Global, list: &[Member], horizon: &Horizon) -> Result<MemberTexts, Memory>
     requires within { All (LiesWithin horizon.now) list.now }
     ensures crew { IfOk result (λ texts. texts.crew ≡ crew_text list.now) }
-    ensures history { IfOk result (λ texts. texts.history ≡ events_text horizon.now History list.now) }
+    ensures history { IfOk result (λ texts. texts.history
+        ≡ events_text horizon.now History list.now) }
     ensures fixed { IfOk result (λ texts. texts.fixed ≡ events_text horizon.now Fixed list.now) }
-    ensures again { IfOk result (λ texts. AreMembers horizon.now list.now → members_of horizon.now texts.crew texts.history texts.fixed ≡ Ok list.now) }
+    ensures again { IfOk result (λ texts. AreMembers horizon.now list.now
+        → members_of horizon.now texts.crew texts.history texts.fixed ≡ Ok list.now) }
 {
     let crew = put_crew(alloc, list)?;
     let history = put_part(alloc, list, Part::History, horizon)?;

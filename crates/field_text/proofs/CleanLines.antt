@@ -17,6 +17,7 @@ use Rattle.field_text.specs.declared.field_fault.FieldFault.{FieldFault}
 use Rattle.field_text.specs.Form.{Form, nothing, finished, one, many, up_to, either, after, is_nothing, is_in, fault_from}
 use Rattle.field_text.specs.Fields.{field, shaped}
 use Rattle.field_text.specs.Records.{records_left}
+use Rattle.field_text.specs.Rows.{line, line_end}
 use Rattle.field_text.proofs.RecordsLeft.{records_left-next, records_left-none}
 
 -- a blank, or a byte from the dash to the letter z: no comma, no quote and no line's end
@@ -61,19 +62,9 @@ all-utf8 (f ∷ fs) h = rw (clean-utf8 f h.0, all-utf8 fs h.1) refl
 pub clean-append : (a b : List ℕ) → are_clean a ≡ true → are_clean b ≡ true → are_clean (a ++ b) ≡ true
 clean-append a b h k = list_all-append is_clean a b ∙ rw (h, k) refl
 
--- the fields behind the first one of a line, and the line's end
-abbrev pub line_end : List (List ℕ) → List ℕ
-line_end [] = 10 ∷ []
-line_end (f ∷ fs) = 44 ∷ f ++ line_end fs
-
--- a line of a first field and others
-abbrev pub clean_line : List (List ℕ) → List ℕ
-clean_line [] = 10 ∷ []
-clean_line (f ∷ fs) = f ++ line_end fs
-
 abbrev pub clean_lines : List (List (List ℕ)) → List ℕ
 clean_lines [] = []
-clean_lines (r ∷ rs) = clean_line r ++ clean_lines rs
+clean_lines (r ∷ rs) = line r ++ clean_lines rs
 
 -- records of two or more clean fields
 abbrev pub AreCleanRows : List (List (List ℕ)) → Type 0
@@ -86,12 +77,12 @@ end-written [] h = refl
 end-written (f ∷ fs) h =
     rw (clean-bare f h.0) (ap (λ (t : List ℕ). 44 ∷ t) (append_assoc f (fields_text default_writer fs) (10 ∷ []) ∙ ap (λ (t : List ℕ). f ++ t) (end-written fs h.1)))
 
-line-written : (f g : List ℕ) (fs : List (List ℕ)) → AreClean (f ∷ g ∷ fs) → row_text default_writer (f ∷ g ∷ fs) ≡ clean_line (f ∷ g ∷ fs)
+line-written : (f g : List ℕ) (fs : List (List ℕ)) → AreClean (f ∷ g ∷ fs) → row_text default_writer (f ∷ g ∷ fs) ≡ line (f ∷ g ∷ fs)
 unfolding is_blank
 line-written f g fs h =
     rw (clean-bare f h.0) (append_assoc f (fields_text default_writer (g ∷ fs)) (10 ∷ []) ∙ ap (λ (t : List ℕ). f ++ t) (end-written (g ∷ fs) h.1))
 
-line-read : (r : List (List ℕ)) (tail : List ℕ) → 2 ≤ length r → AreClean r → next_record default_config st.StartRecord [] [] (clean_line r ++ tail) ≡ Some (r, st.StartRecord, tail)
+line-read : (r : List (List ℕ)) (tail : List ℕ) → 2 ≤ length r → AreClean r → next_record default_config st.StartRecord [] [] (line r ++ tail) ≡ Some (r, st.StartRecord, tail)
 line-read [] tail w h = absurd (omega arith)
 line-read (f ∷ []) tail w h = absurd (omega arith)
 line-read (f ∷ g ∷ fs) tail w h = ap (λ (t : List ℕ). next_record default_config st.StartRecord [] [] (t ++ tail)) (sym (line-written f g fs h)) ∙ read-write-many f g fs tail
@@ -103,7 +94,7 @@ none-read = refl
 lines-left : (rows : List (List (List ℕ))) → AreCleanRows rows → records_left st.StartRecord (clean_lines rows) ≡ rows
 lines-left [] h = records_left-none st.StartRecord [] none-read
 lines-left (r ∷ rs) h =
-    records_left-next st.StartRecord (clean_line r ++ clean_lines rs) (r, st.StartRecord, clean_lines rs) (line-read r (clean_lines rs) h.0 h.1)
+    records_left-next st.StartRecord (line r ++ clean_lines rs) (r, st.StartRecord, clean_lines rs) (line-read r (clean_lines rs) h.0 h.1)
     ∙ ap (λ (more : List (List (List ℕ))). r ∷ more) (lines-left rs h.2)
 
 -- a text that begins with no byte order mark keeps all its bytes

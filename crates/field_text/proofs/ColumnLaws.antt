@@ -6,9 +6,9 @@ use Rattle.std.specs.Prelude.{IsTrue}
 use Rattle.field_text.specs.declared.form.Class.{Class}
 use Rattle.field_text.specs.declared.form.Class.TheVariants.{Digit, NonZero, Capital, NameByte, Byte}
 use Rattle.field_text.specs.Form.{Form, nothing, finished, one, many, up_to, either, is_in, after, may_end, is_nothing, is_of, fault_from}
-use Rattle.field_text.specs.Columns.{Begins, StopsAt, a_byte, a_text, begins_in, is_live}
+use Rattle.field_text.specs.Columns.{Fits, Begins, StopsAt, a_byte, a_text, begins_in, is_live}
 
-byte-in : (c : Class) → is_in c (a_byte c) ≡ true
+pub byte-in : (c : Class) → is_in c (a_byte c) ≡ true
 byte-in Digit = refl
 byte-in NonZero = refl
 byte-in Capital = refl
@@ -105,8 +105,8 @@ fault-least n k f (b ∷ bs) h = go (is_nothing (after f b)) h (fault-least (n +
 -- where a text leaves a form, as so many bytes that it shares with texts of the form
 record Leaves (f : Form) (text : List ℕ) (j : ℕ) : Type 0 where
   within : j ≤ length text
-  before : Begins f (take j text)
-  here : j < length text → ¬ Begins f (take (suc j) text)
+  before : Begins (Fits f) (take j text)
+  here : j < length text → ¬ Begins (Fits f) (take (suc j) text)
   ends : ¬ IsTrue (is_of f text)
 
 leaves-end : (f : Form) → is_live f ≡ true → may_end f ≡ false → Leaves f [] 0
@@ -123,7 +123,7 @@ unfolding is_of
 leaves-here f b bs h e = record {
   within = omega arith;
   before = (a_text f, text-of f h);
-  here = λ l (w : Begins f (b ∷ [])). let n = never-of (after f b) w.0 e in let t = w.1 in cc;
+  here = λ l (w : Begins (Fits f) (b ∷ [])). let n = never-of (after f b) w.0 e in let t = w.1 in cc;
   ends = λ t. let n = never-of (after f b) bs e in cc;
 }
 
@@ -168,14 +168,14 @@ fits-of n f (b ∷ bs) h = go (is_nothing (after f b)) h (fits-of (n + 1) (after
     go true e more = cc
     go false e more = more e
 
-pub stops : (f : Form) (text : List ℕ) (column : ℕ) → IsTrue (is_live f) → fault_from 1 f text ≡ Some column → StopsAt f text column
+pub stops : (f : Form) (text : List ℕ) (column : ℕ) → IsTrue (is_live f) → fault_from 1 f text ≡ Some column → StopsAt (Fits f) text column
 stops f text zero h e = absurd (omega (arith, fault-least 1 0 f text e))
 stops f text (suc j) h e =
     let l = leaves 1 j f text h (e ∙ ap Some (omega arith)) in
     record {
       counted = omega arith;
       within = omega (arith, l.within);
-      before = λ k s. let z : j ≡ k = omega arith in subst (λ (i : ℕ). Begins f (take i text)) z l.before;
+      before = λ k s. let z : j ≡ k = omega arith in subst (λ (i : ℕ). Begins (Fits f) (take i text)) z l.before;
       here = λ p. l.here (omega arith);
       ends = l.ends;
     }

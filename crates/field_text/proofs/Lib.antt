@@ -4,6 +4,7 @@ pub mod RecordsLeft
 pub mod TextRows
 pub mod TokenSteps
 pub mod TokenLaws
+pub mod Runs
 pub mod Spelled
 pub mod Prefixes
 pub mod Again

@@ -9,7 +9,7 @@ use Rattle.field_text.specs.declared.token.TokenFault.{TokenFault}
 use Rattle.field_text.specs.declared.token.TokenFault.TheVariants.{Byte}
 use Rattle.field_text.specs.Tokens.{is_blank, is_graphic, closed, ◌andthen◌, tokens_from, lie_within}
 
-andthen_ok : (a found : List Token) (r : Result (List Token) TokenFault) → a andthen r ≡ Ok found → (more : List Token) × (r ≡ Ok more) × (found ≡ a ++ more)
+pub andthen_ok : (a found : List Token) (r : Result (List Token) TokenFault) → a andthen r ≡ Ok found → (more : List Token) × (r ≡ Ok more) × (found ≡ a ++ more)
 andthen_ok a found (Ok more) h = (more, refl, cc)
 andthen_ok a found (Err e) h = cc
 

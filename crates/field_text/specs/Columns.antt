@@ -4,19 +4,23 @@ use Rattle.field_text.specs.declared.form.Class.{Class}
 use Rattle.field_text.specs.declared.form.Class.TheVariants.{Digit, NonZero, Capital, NameByte, Byte}
 use Rattle.field_text.specs.Form.{Form, nothing, finished, one, many, up_to, either, is_in, is_of}
 
--- some text of the form begins so
-abbrev pub Begins : Form → List ℕ → Type 0
-Begins f start = (rest : List ℕ) × IsTrue (is_of f (start ++ rest))
+-- a text is of the form
+abbrev pub Fits : Form → List ℕ → Type 0
+Fits f text = IsTrue (is_of f text)
 
--- The column, counted from 1, is that of the first byte at which no text of the form goes on:
--- some text of the form begins with the bytes before it, and none with that byte too,
--- or the text is none of the form where the column is one past its end.
-pub record StopsAt (f : Form) (text : List ℕ) (column : ℕ) : Type 0 where
+-- some text of a kind begins so
+abbrev pub Begins : (List ℕ → Type 0) → List ℕ → Type 0
+Begins Is start = (rest : List ℕ) × Is (start ++ rest)
+
+-- The column, counted from 1, is that of the first byte at which no text of a kind goes on:
+-- some text of the kind begins with the bytes before it, and none with that byte too,
+-- or the text is none of the kind where the column is one past its end.
+pub record StopsAt (Is : List ℕ → Type 0) (text : List ℕ) (column : ℕ) : Type 0 where
   pub counted : 1 ≤ column
   pub within : column ≤ length text + 1
-  pub before : (k : ℕ) → k + 1 ≡ column → Begins f (take k text)
-  pub here : column ≤ length text → ¬ Begins f (take column text)
-  pub ends : ¬ IsTrue (is_of f text)
+  pub before : (k : ℕ) → k + 1 ≡ column → Begins Is (take k text)
+  pub here : column ≤ length text → ¬ Begins Is (take column text)
+  pub ends : ¬ Is text
 
 -- a byte of the class
 abbrev pub a_byte : Class → ℕ

@@ -10,7 +10,8 @@ pub record Civil : Type 0 where
 -- the next day: of the month, else the first of the next month, else of the next year
 abbrev pub next_day : Civil → Civil
 next_day c =
-    if nat_lt c.day (days_in_month (pos c.year) c.month) then record { year = c.year; month = c.month; day = c.day + 1 } else
+    if nat_lt c.day (days_in_month (pos c.year) c.month)
+    then record { year = c.year; month = c.month; day = c.day + 1 } else
     (if nat_lt c.month 12 then record { year = c.year; month = c.month + 1; day = 1 } else
     record { year = c.year + 1; month = 1; day = 1 })
 

@@ -17,7 +17,8 @@ shaped None value = value
 shaped (Some column) value = Err (Shape column)
 
 -- an empty field, one that is not of the form, or what a text of the form says
-abbrev pub field : {A : Type 0} → Form → (List ℕ → Result A FieldFault) → List ℕ → Result A FieldFault
+abbrev pub field : {A : Type 0} → Form → (List ℕ → Result A FieldFault) → List ℕ
+    → Result A FieldFault
 field form value [] = Err Empty
 field form value (b ∷ bs) = shaped (fault_from 1 form (b ∷ bs)) (value (b ∷ bs))
 
@@ -38,7 +39,7 @@ two_digits text i = 10 * (slice_index text i - 48) + (slice_index text (i + 1) -
 abbrev pub four_digits : List ℕ → ℕ → ℕ
 four_digits text i = 100 * two_digits text i + two_digits text (i + 2)
 
--- minutes: hours of one to three digits without a leading zero but for 0 itself, a colon, two digits
+-- minutes: hours of one to three digits, 0 alone or without a leading 0, a colon, two digits
 abbrev pub minutes_end : List Class
 minutes_end = Byte 58 ∷ Digit ∷ Digit ∷ []
 
@@ -48,7 +49,8 @@ minutes = either (Byte 48) (row minutes_end) (one NonZero (up_to 2 Digit (row mi
 -- the minutes of a text whose hours are its first k bytes
 abbrev pub minutes_value : List ℕ → ℕ → Option ℕ
 minutes_value text k =
-    if nat_lt (two_digits text (k + 1)) 60 then Some (60 * digits_value 10 (take k text) + two_digits text (k + 1)) else None
+    let minute = two_digits text (k + 1) in
+    if nat_lt minute 60 then Some (60 * digits_value 10 (take k text) + minute) else None
 
 abbrev pub minutes_field : List ℕ → Result ℕ FieldFault
 minutes_field = field minutes (λ text. or_fault Range (minutes_value text (length text - 3)))
@@ -59,7 +61,9 @@ clock = Digit ∷ Digit ∷ Byte 58 ∷ Digit ∷ Digit ∷ []
 
 abbrev pub clock_value : List ℕ → Option ℕ
 clock_value text =
-    if nat_lt (two_digits text 0) 24 && nat_lt (two_digits text 3) 60 then Some (60 * two_digits text 0 + two_digits text 3) else None
+    let hour = two_digits text 0 in
+    let minute = two_digits text 3 in
+    if nat_lt hour 24 && nat_lt minute 60 then Some (60 * hour + minute) else None
 
 abbrev pub clock_field : List ℕ → Result ℕ FieldFault
 clock_field = field (row clock) (λ text. or_fault Range (clock_value text))

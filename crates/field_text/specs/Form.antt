@@ -53,10 +53,11 @@ unfoldable pub is_of : Form → List ℕ → Bool
 is_of f [] = may_end f
 is_of f (b ∷ bs) = is_of (after f b) bs
 
--- the column of the first byte at which no text of the form goes on, where the text begins at column n
+-- the column of the first byte at which no text of the form goes on, for a text from column n on
 unfoldable pub fault_from : ℕ → Form → List ℕ → Option ℕ
 fault_from n f [] = if may_end f then None else Some n
-fault_from n f (b ∷ bs) = if is_nothing (after f b) then Some n else fault_from (n + 1) (after f b) bs
+fault_from n f (b ∷ bs) =
+    if is_nothing (after f b) then Some n else fault_from (n + 1) (after f b) bs
 
 -- a form of bytes in a row
 abbrev pub row : List Class → Form

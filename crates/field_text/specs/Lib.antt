@@ -1,5 +1,6 @@
 pub mod Sizes
 pub mod Steps
+pub mod Gives
 pub mod Form
 pub mod Columns
 pub mod Fields

@@ -40,7 +40,8 @@ abbrev pub moment_end : ℕ → List ℕ
 moment_end of_day = 84 ∷ clock_text of_day ++ 90 ∷ []
 
 unfoldable pub moment_text : Horizon → ℕ → List ℕ
-moment_text h minute = civil_text (civil (utc_minute h minute / 1440)) ++ moment_end (utc_minute h minute % 1440)
+moment_text h minute =
+    civil_text (civil (utc_minute h minute / 1440)) ++ moment_end (utc_minute h minute % 1440)
 
 -- a list has gained a part of a text, from its begin
 abbrev pub HasPartly : List ℕ → List ℕ → List ℕ → Type 0

@@ -16,8 +16,8 @@ pub enum FileName {
     Fixed,
 }
 
-/// What is wrong with a row of a file. A row is tested in the order of `Utf8`, `Width`, `Field` from the left,
-/// and then by code.
+/// What is wrong with a row of a file. A row is tested in the order of `Utf8`, `Width`, `Field`
+/// from the left, and then by code.
 #[derive(Clone, Copy, Debug, PartialEq, Eq, Error)]
 pub enum FileCode {
     /// No memory was left; the row is 0. Code 0.

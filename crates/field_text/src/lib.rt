@@ -19,7 +19,7 @@ pub use form::Class;
 pub use laws::{column_laws, field_laws, word_laws};
 pub use number::{read_minutes, read_number};
 pub use records::Records;
-pub use rows::{as_text, bytes_at, text_at};
+pub use rows::{as_text, at_row, bytes_at, field_is, in_column, next, text_at};
 pub use time::{moment_of, read_clock, read_day, read_moment};
 pub use token::{Token, TokenFault, tokens};
 pub use word::{read_name, read_station};

@@ -68,7 +68,8 @@ fn hour_digits(text: &[u8]) -> usize
     ensures few { result ≤ 3 }
     ensures digits { AllDigits 10 (take result text.now) }
     ensures none { result ≡ 0 → fault_from 1 minutes text.now ≡ Some 1 }
-    ensures rest { 1 ≤ result → fault_from 1 minutes text.now ≡ fault_from (result + 1) (row minutes_end) (drop result text.now) }
+    ensures rest { 1 ≤ result → fault_from 1 minutes text.now
+        ≡ fault_from (result + 1) (row minutes_end) (drop result text.now) }
 {
     if text[0] == b'0' {
         return 1;

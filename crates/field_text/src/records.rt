@@ -1,15 +1,13 @@
 //! The records of a text, one after another.
-ghost use Rattle.std.specs.Prelude.{◌≡◌, [], ◌∷◌, ◌+◌, ◌≤◌, length, IfOk, IfSome, MatchOption};
-ghost use Rattle.csv.specs.Reading.{default_config, records, strip_bom};
-ghost use Rattle.csv.specs.Records.{fields_of};
+ghost use Rattle.std.specs.Prelude.{◌≡◌, [], ◌∷◌, ◌+◌, ◌≤◌, length, IfOk, IfErr};
 
 use csv::{ByteRecord, Reader, ReaderBuilder};
 use duty_calendar::Memory;
 use std::alloc::Global;
 use std::marker::Model;
 
-/// The records of a text of comma-separated fields that are still to be read. A record may have any number of
-/// fields, and the fields are as they stand.
+/// The records of a text of comma-separated fields that are still to be read. A record may have any
+/// number of fields, and the fields are as they stand.
 #[derive(Drop)]
 pub struct Records<'a> {
     reader: Reader<&'a [u8]>,
@@ -34,12 +32,12 @@ fn memory(_error: csv::Error) -> Memory {
 
 impl<'a> Records<'a> {
     ghost use Rattle.field_text.specs.Sizes.{longest};
-    ghost use Rattle.field_text.specs.Records.{AreWithin};
+    ghost use Rattle.field_text.specs.Records.{AreWithin, IfRow, Takes, records_of};
 
     /// The records of a text, the header among them. A byte order mark at its head is passed over.
     pub fn new(alloc: Global, text: &'a [u8]) -> Records<'a>
         requires short { length text.now ≤ longest }
-        ensures value { result ≡ records default_config (strip_bom text.now) }
+        ensures value { result ≡ records_of text.now }
         ensures bound { length result ≤ length text.now + 1 }
     {
         let reader = ReaderBuilder::new()
@@ -52,10 +50,11 @@ impl<'a> Records<'a> {
         }
     }
 
-    /// The next record, if there is one. After an error there is none.
+    /// The next record, if there is one. After an error no record is left.
     pub fn read(&mut self, alloc: Global) -> Result<Option<ByteRecord>, Memory>
-        ensures next { IfOk result (λ next. MatchOption next (self.old ≡ []) (λ row. self.old ≡ fields_of row ∷ self.new)) }
-        ensures short { IfOk result (λ next. IfSome next (λ row. AreWithin longest (fields_of row))) }
+        ensures next { IfOk result (Takes self.old self.new) }
+        ensures short { IfOk result (IfRow (AreWithin longest)) }
+        ensures ended { IfErr result (λ _. self.new ≡ []) }
     {
         if self.ended {
             return Ok(None);

@@ -145,7 +145,8 @@ pub fn read_day(text: &str) -> Result<Date, FieldFault>
     }
 }
 
-/// The base-local minute, from minute 0 of the horizon, of the bytes of a moment `YYYY-MM-DDThh:mmZ` in UTC.
+/// The base-local minute, from minute 0 of the horizon, of the bytes of a moment
+/// `YYYY-MM-DDThh:mmZ` in UTC.
 pub fn moment_of(bytes: &[u8], horizon: &Horizon) -> Result<u32, FieldFault>
     requires short { length bytes.now ≤ longest }
     ensures value { result ≡ moment_field horizon.now bytes.now }

@@ -3,8 +3,9 @@ ghost use Rattle.std.specs.Prelude.{◌≡◌, ℕ, ◌+◌, ◌∷◌, [], List
 ghost use Rattle.std.specs.List.{list_all};
 ghost use Rattle.std.specs.Str.{IsAscii};
 ghost use Rattle.field_text.specs.Codes.{token_code};
+ghost use Rattle.field_text.specs.Gives.{Gives};
 ghost use Rattle.field_text.specs.Sizes.{longest};
-ghost use Rattle.field_text.specs.Tokens.{is_blank, is_graphic, closed, read_tokens, tokens_from, lie_within, ◌andthen◌, TokensGive};
+ghost use Rattle.field_text.specs.Tokens.{is_blank, is_graphic, closed, read_tokens, tokens_from, lie_within, told, AreRuns, StandsAt, ◌andthen◌};
 ghost use Rattle.field_text.specs.declared.token.TokenFault.TheVariants.{NoMemory};
 
 use duty_calendar::List;
@@ -24,7 +25,8 @@ pub enum TokenFault {
     /// No memory was left. Code 0.
     #[error("out of memory")]
     NoMemory,
-    /// The column, from 1, of the first byte that may stand neither in a token nor between two. Code 1.
+    /// The column, from 1, of the first byte that may stand neither in a token nor between two.
+    /// Code 1.
     #[error("no token and no blank at byte {0}")]
     Byte(u32),
 }
@@ -56,7 +58,7 @@ fn is_graphic(b: u8) -> bool
 /// Adds the token that ends at a place, if one is open there.
 fn close(found: &mut List<Token>, run: Option<u32>, end: u32) -> Result<(), TokenFault>
     ensures ok { OnOk result (found.new ≡ found.old ++ closed run end) }
-    ensures err { IfErr result (λ e. e ≡ NoMemory) }
+    ensures fault { IfErr result (λ e. e ≡ NoMemory) }
 {
     if let Some(start) = run {
         if found.push(Token { start, end }).is_err() {
@@ -69,7 +71,9 @@ fn close(found: &mut List<Token>, run: Option<u32>, end: u32) -> Result<(), Toke
 /// The tokens of a line, in order: its longest runs of graphic bytes, with spaces and tabs between.
 pub fn tokens(alloc: Global, line: &[u8]) -> Result<List<Token>, TokenFault>
     requires short { length line.now ≤ longest }
-    ensures value { TokensGive result (read_tokens line.now) }
+    ensures value { Gives told (λ found. found) result (read_tokens line.now) }
+    ensures runs { IfOk result (AreRuns line.now) }
+    ensures fault { IfErr result (StandsAt line.now) }
     ensures within { IfOk result (λ found. IsTrue (lie_within (length line.now) found)) }
     ensures ascii { OnOk result (IsAscii line.now) }
 {

@@ -8,10 +8,9 @@ use Rattle.field_text.specs.declared.file_fault.FileCode.{FileCode}
 use Rattle.field_text.specs.declared.file_fault.FileCode.TheVariants.{Utf8, Width, Header}
 use Rattle.field_text.specs.declared.file_fault.FileName.{FileName}
 use Rattle.field_text.specs.Steps.{◌>>=◌, or_fault}
-use Rattle.field_text.specs.Rows.{in_column, at_row, rows_from, file, same_record}
+use Rattle.field_text.specs.Rows.{in_column, at_row, rows_from, file, same_record, text_row}
 use Rattle.pairing_files.specs.Faults.{first_fault}
 use Rattle.pairing_files.specs.Files.{unless}
-use Rattle.pairing_files.specs.Rows.{text_row}
 
 pub bind-ok : {A B E : Type 0} (x : Result A E) (f : A → Result B E) (z : B) → (x >>= f) ≡ Ok z → (y : A) × (x ≡ Ok y) × (f y ≡ Ok z)
 bind-ok (Ok y) f z e = (y, refl, e)

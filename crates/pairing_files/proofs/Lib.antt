@@ -1,4 +1,5 @@
 pub mod NameFacts
+pub mod RowSteps
 pub mod RowsFrom
 pub mod HeaderFacts
 pub mod ListFacts

@@ -6,7 +6,8 @@ use Rattle.duty_calendar.specs.declared.horizon.Horizon.{Horizon}
 use Rattle.duty_calendar.specs.declared.pairing.Duty.{Duty}
 use Rattle.duty_calendar.specs.declared.pairing.Leg.{Leg}
 use Rattle.duty_calendar.specs.declared.pairing.Pairing.{Pairing}
-use Rattle.pairing_files.specs.Texts.{line, lines, pairing_fields, duty_fields, leg_fields, pairing_rows, duty_rows, all_duty_rows, leg_rows, duties_leg_rows, all_leg_rows}
+use Rattle.pairing_files.specs.Texts.{lines, pairing_fields, duty_fields, leg_fields, pairing_rows, duty_rows, all_duty_rows, leg_rows, duties_leg_rows, all_leg_rows}
+use Rattle.field_text.specs.Rows.{line}
 
 pub chain-three : (o o1 o2 o3 a b c : List ℕ) → o1 ≡ o ++ (a ++ 44 ∷ []) → o2 ≡ o1 ++ (b ++ 44 ∷ []) → o3 ≡ o2 ++ (c ++ 10 ∷ []) → o3 ≡ o ++ line (a ∷ b ∷ c ∷ [])
 chain-three o o1 o2 o3 a b c e1 e2 e3 = rw (e3, e2, e1) (simp append_assoc)

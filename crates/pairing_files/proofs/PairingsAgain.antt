@@ -11,16 +11,17 @@ use Rattle.duty_calendar.specs.declared.horizon.Horizon.{Horizon}
 use Rattle.duty_calendar.specs.declared.pairing.Duty.{Duty}
 use Rattle.duty_calendar.specs.declared.pairing.Leg.{Leg}
 use Rattle.duty_calendar.specs.declared.pairing.Pairing.{Pairing}
-use Rattle.field_text.specs.Rows.{file}
+use Rattle.field_text.specs.Rows.{file, line, line_end}
 use Rattle.field_text.specs.Steps.{◌>>=◌}
 use Rattle.field_text.specs.declared.file_fault.FileFault.{FileFault}
 use Rattle.field_text.specs.declared.file_fault.FileName.TheVariants.{Pairings, Duties, Legs}
-use Rattle.field_text.proofs.CleanLines.{AreCleanRows, line_end, clean_line, clean_lines, lines-read}
+use Rattle.field_text.proofs.CleanLines.{AreCleanRows, clean_lines, lines-read}
 use Rattle.pairing_files.specs.declared.tables.Place.{Place}
 use Rattle.pairing_files.specs.Columns.{pairings_header, duties_header, legs_header}
 use Rattle.pairing_files.specs.Drafts.{Draft, no_draft}
-use Rattle.pairing_files.specs.Files.{pairing_row, duty_row, leg_row, records_of, pairings_file, duties_file, legs_file, is_idle, is_bare, lacks_parts, part_fault, unless, finished, pairings_of}
-use Rattle.pairing_files.specs.Texts.{line, lines, pairing_rows, duty_rows, all_duty_rows, leg_rows, duties_leg_rows, all_leg_rows, pairings_text, duties_text, legs_text}
+use Rattle.pairing_files.specs.Files.{pairing_row, duty_row, leg_row, pairings_file, duties_file, legs_file, is_idle, is_bare, lacks_parts, part_fault, unless, finished, pairings_of}
+use Rattle.field_text.specs.Records.{records_of}
+use Rattle.pairing_files.specs.Texts.{lines, pairing_rows, duty_rows, all_duty_rows, leg_rows, duties_leg_rows, all_leg_rows, pairings_text, duties_text, legs_text}
 use Rattle.pairing_files.proofs.FaultsAgain.{both-fit}
 use Rattle.pairing_files.proofs.FilesAgain.{draft, stripped, undressed, pairing-spelt, duty-spelt, leg-spelt, pairings-lead, all-duties-lead, all-legs-lead}
 use Rattle.pairing_files.proofs.ListFacts.{all-get}
@@ -30,21 +31,16 @@ use Rattle.pairing_files.proofs.Seams.{seam-next, seam-size, seam-short, seam-al
 
 -- lines
 
-line-same : (fields : List (List ℕ)) → line fields ≡ clean_line fields
-line-same [] = refl
-line-same (f ∷ []) = refl
-line-same (f ∷ g ∷ fs) = ap (λ (t : List ℕ). f ++ 44 ∷ t) (line-same (g ∷ fs))
-
 lines-same : (rows : List (List (List ℕ))) → lines rows ≡ clean_lines rows
 unfolding lines
 lines-same [] = refl
-lines-same (r ∷ rs) = ap (λ (t : List ℕ). t ++ lines rs) (line-same r) ∙ ap (λ (t : List ℕ). clean_line r ++ t) (lines-same rs)
+lines-same (r ∷ rs) = ap (λ (t : List ℕ). line r ++ t) (lines-same rs)
 
 -- a header that begins with such a byte, and rows
 records-again : (a : ℕ) (bs : List ℕ) (fs : List (List ℕ)) (rows : List (List (List ℕ))) → a ≤ 122 → AreCleanRows (((a ∷ bs) ∷ fs) ∷ rows) → records_of (line ((a ∷ bs) ∷ fs) ++ lines rows) ≡ ((a ∷ bs) ∷ fs) ∷ rows
 records-again a bs fs rows low clean =
     let header = (a ∷ bs) ∷ fs in
-    let same : line header ++ lines rows ≡ clean_lines (header ∷ rows) = ap (λ (t : List ℕ). t ++ lines rows) (line-same header) ∙ ap (λ (t : List ℕ). clean_line header ++ t) (lines-same rows) in
+    let same : line header ++ lines rows ≡ clean_lines (header ∷ rows) = ap (λ (t : List ℕ). line header ++ t) (lines-same rows) in
     ap records_of same ∙ lines-read a ((bs ++ line_end fs) ++ clean_lines rows) (header ∷ rows) low refl clean
 
 clean-join : (xs ys : List (List (List ℕ))) → AreCleanRows xs → AreCleanRows ys → AreCleanRows (xs ++ ys)

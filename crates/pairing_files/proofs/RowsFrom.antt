@@ -4,8 +4,9 @@ use Rattle.field_text.specs.declared.file_fault.FileCode.{FileCode}
 use Rattle.field_text.specs.declared.file_fault.FileCode.TheVariants as code
 use Rattle.field_text.specs.declared.file_fault.FileFault.{FileFault}
 use Rattle.field_text.specs.declared.file_fault.FileName.{FileName}
-use Rattle.field_text.specs.Rows.{rows_from, file, Fails, Gives}
-use Rattle.pairing_files.specs.Steps.{BeginsWith, LacksHeader}
+use Rattle.field_text.specs.Rows.{rows_from, file, Fails, told}
+use Rattle.field_text.specs.Gives.{Gives}
+use Rattle.pairing_files.specs.Steps.{BeginsWith, LacksHeader, IsHeaderFault}
 
 module _ {S : Type 0} (name : FileName) (row : S → List (List ℕ) → Result S FileCode) (n : ℕ) (s : S) where
   pub rows-end : (rs : List (List (List ℕ))) → rs ≡ [] → rows_from name row n s rs ≡ Ok s
@@ -71,12 +72,12 @@ row-fails name row n s rs more r c e read same split step of_code of_value =
 
 -- the header stands first, and the rows after it are read
 pub gives-begins : {S X : Type 0} (view : X → S) (r : Result X FileFault) (name : FileName) (header : List (List ℕ)) (row : S → List (List ℕ) → Result S FileCode) (s : S) (rs rest : List (List (List ℕ)))
-    → BeginsWith header rs rest → Gives view r (rows_from name row 2 s rest) → Gives view r (file name header row s rs)
+    → BeginsWith header rs rest → Gives told view r (rows_from name row 2 s rest) → Gives told view r (file name header row s rs)
 gives-begins {S} view r name header row s rs rest b g =
-    let P : Result S FileFault → Type 0 = λ q. Gives view r q in
+    let P : Result S FileFault → Type 0 = λ q. Gives told view r q in
     subst P (sym (file-begins name header row s rs rest b)) g
 
 -- the header does not stand first
 pub header-fails : {S : Type 0} (name : FileName) (header : List (List ℕ)) (row : S → List (List ℕ) → Result S FileCode) (s : S) (rs : List (List (List ℕ))) (e : FileFault)
-    → (e.code ≢ code.NoMemory → LacksHeader header rs × (e ≡ record { file = name; row = 1; code = code.Header })) → Fails e.code e (file name header row s rs)
-header-fails name header row s rs e h = fails-so e.code e _ (λ k. file-lacks name header row s rs (h k).0 ∙ ap Err (sym (h k).1))
+    → (e.code ≢ code.NoMemory → IsHeaderFault name header rs e) → Fails e.code e (file name header row s rs)
+header-fails name header row s rs e h = fails-so e.code e _ (λ k. file-lacks name header row s rs (h k).lacks ∙ ap Err (sym (h k).fault))

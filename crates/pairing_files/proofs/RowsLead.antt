@@ -1,12 +1,11 @@
 -- Rows that lead from one draft to another, whatever their numbers.
 use Rattle.std.proofs.Common.{◌≡◌, ℕ, ◌+◌, List, [], ◌∷◌, ◌++◌, length, true, Result, Ok, Err, refl, ap, ◌∙◌, ◌==◌}
 use Rattle.field_text.specs.Steps.{◌>>=◌}
-use Rattle.field_text.specs.Rows.{in_column, at_row, rows_from, file, same_record}
+use Rattle.field_text.specs.Rows.{in_column, at_row, rows_from, file, same_record, text_row}
 use Rattle.field_text.specs.declared.field_fault.FieldFault.{FieldFault}
 use Rattle.field_text.specs.declared.file_fault.FileCode.{FileCode}
 use Rattle.field_text.specs.declared.file_fault.FileName.{FileName}
 use Rattle.field_text.proofs.CleanLines.{AreClean, all-utf8}
-use Rattle.pairing_files.specs.Rows.{text_row}
 
 abbrev pub Leads : {S : Type 0} → FileName → (S → List (List ℕ) → Result S FileCode) → S → List (List (List ℕ)) → S → Type 0
 Leads name row s rows t = (n : ℕ) → rows_from name row n s rows ≡ Ok t

@@ -11,7 +11,7 @@ use Rattle.duty_calendar.specs.declared.pairing.Duty.{Duty}
 use Rattle.duty_calendar.specs.declared.pairing.Pairing.{Pairing}
 use Rattle.field_text.specs.Fields.{shaped, moment, clock_value, day_value, moment_value, moment_field, name_field, number_field, minutes_field, station_field}
 use Rattle.field_text.specs.Form.{fault_from, row}
-use Rattle.field_text.specs.Rows.{in_column}
+use Rattle.field_text.specs.Rows.{in_column, text_row}
 use Rattle.field_text.specs.Sizes.{longest}
 use Rattle.field_text.specs.Steps.{◌>>=◌, or_fault}
 use Rattle.field_text.specs.declared.field_fault.FieldFault.{FieldFault}
@@ -29,8 +29,8 @@ use Rattle.pairing_files.specs.declared.tables.Place.{Place}
 use Rattle.pairing_files.specs.Columns.{field_at, layover_field, pairing_columns, duty_columns, leg_columns, pairings_header, duties_header, legs_header}
 use Rattle.pairing_files.specs.Drafts.{Draft, no_draft, place_of, with_pairing, with_duty, with_leg}
 use Rattle.pairing_files.specs.Faults.{pairing_fault, duty_fault, leg_fault, numbered}
-use Rattle.pairing_files.specs.Files.{unless, place_pairing, place_duty, place_leg, pairing_row, duty_row, leg_row, records_of, pairings_file, duties_file, legs_file, is_idle, is_bare, lacks_parts, part_fault, draft_from, finished, pairings_of}
-use Rattle.pairing_files.specs.Rows.{text_row}
+use Rattle.pairing_files.specs.Files.{unless, place_pairing, place_duty, place_leg, pairing_row, duty_row, leg_row, pairings_file, duties_file, legs_file, is_idle, is_bare, lacks_parts, part_fault, draft_from, finished, pairings_of}
+use Rattle.field_text.specs.Records.{records_of}
 use Rattle.pairing_files.proofs.Begun.{IsBegunDuty, IsBegun, Stays, Joins, place_at, IsBegunDraft, keeps-pairing, keeps-duty, keeps-leg}
 use Rattle.pairing_files.proofs.HeaderFacts.{get_or-map_of}
 use Rattle.pairing_files.proofs.Inverse.{both-none, bind-ok, unless-ok, or_fault-ok, in_column-ok, text_row-ok, three-ok, six-ok, le-true, file-keeps}

@@ -14,10 +14,13 @@ abbrev pub pairings_header : List (List ℕ)
 pairings_header = codes "pairing" ∷ codes "need" ∷ codes "credit" ∷ []
 
 abbrev pub duties_header : List (List ℕ)
-duties_header = codes "pairing" ∷ codes "no" ∷ codes "report" ∷ codes "parked" ∷ codes "release" ∷ codes "layover" ∷ []
+duties_header =
+    codes "pairing" ∷ codes "no" ∷ codes "report" ∷ codes "parked" ∷ codes "release"
+    ∷ codes "layover" ∷ []
 
 abbrev pub legs_header : List (List ℕ)
-legs_header = codes "pairing" ∷ codes "no" ∷ codes "from" ∷ codes "to" ∷ codes "out" ∷ codes "in" ∷ []
+legs_header =
+    codes "pairing" ∷ codes "no" ∷ codes "from" ∷ codes "to" ∷ codes "out" ∷ codes "in" ∷ []
 
 abbrev pub field_at : List (List ℕ) → ℕ → List ℕ
 field_at fields i = slice_index_or fields i []
@@ -47,7 +50,13 @@ duty_columns h fields = do
   Ok (record {
     name = name;
     number = number;
-    duty = record { report = report; parked = parked; release = release; layover = layover; legs = [] };
+    duty = record {
+      report = report;
+      parked = parked;
+      release = release;
+      layover = layover;
+      legs = [];
+    };
   })
 
 -- a leg, with its pairing's name and the number of its duty

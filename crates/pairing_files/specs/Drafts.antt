@@ -7,7 +7,7 @@ use Rattle.duty_calendar.specs.declared.pairing.Pairing.{Pairing}
 use Rattle.pairing_files.specs.declared.tables.Place.{Place}
 use Rattle.pairing_files.specs.declared.tables.Tables.{Tables}
 
--- the pairings in the order of their file, and the place of each duty in the order of the duties' file
+-- the pairings in the order of their file, and the place of each duty in the order of its file
 pub record Draft : Type 0 where
   pub list : List Pairing
   pub places : List Place

@@ -25,7 +25,8 @@ pairing_fault before p =
 
 -- the duty lasts, and is parked in between
 abbrev pub is_duty_in_order : Duty → Bool
-is_duty_in_order d = nat_le d.report d.parked && nat_le d.parked d.release && nat_lt d.report d.release
+is_duty_in_order d =
+    nat_le d.report d.parked && nat_le d.parked d.release && nat_lt d.report d.release
 
 -- the report lies in the month
 abbrev pub is_in_month : Horizon → ℕ → Bool
@@ -38,7 +39,8 @@ month_fault h report = if is_in_month h report then None else Some OutsideMonth
 -- before any other duty lie ten hours of rest
 abbrev pub rest_fault : Duty → ℕ → Option FileCode
 rest_fault e report =
-    if nat_lt report e.release then Some Order else (if nat_lt report (e.release + 600) then Some InnerRest else None)
+    if nat_lt report e.release then Some Order else
+    (if nat_lt report (e.release + 600) then Some InnerRest else None)
 
 abbrev pub report_fault : Horizon → Option Duty → ℕ → Option FileCode
 report_fault h None report = month_fault h report
@@ -57,15 +59,18 @@ abbrev pub duty_fault : Horizon → Pairing → ℕ → Duty → Option FileCode
 duty_fault h p number d =
     if not (number == length p.duties + 1) then Some Order else
     (if not (is_duty_in_order d) then Some Order else
-    first_fault (report_fault h (last_of p.duties) d.report) (too_many most_duties duties_limit p.duties))
+    first_fault (report_fault h (last_of p.duties) d.report)
+    (too_many most_duties duties_limit p.duties))
 
 -- the leg flies within the duty
 abbrev pub is_leg_within : Duty → Leg → Bool
 is_leg_within d l =
-    nat_le d.report l.flown.out_at && nat_lt l.flown.out_at l.flown.in_at && nat_le l.flown.in_at d.parked
+    nat_le d.report l.flown.out_at
+    && nat_lt l.flown.out_at l.flown.in_at && nat_le l.flown.in_at d.parked
 
 abbrev pub is_before_last : List Leg → Leg → Bool
-is_before_last legs l = option_map_or (λ k. nat_lt l.flown.out_at k.flown.in_at) (last_of legs) false
+is_before_last legs l =
+    option_map_or (λ k. nat_lt l.flown.out_at k.flown.in_at) (last_of legs) false
 
 -- the leg does not fit into the duty behind its last one
 abbrev pub leg_fault : Duty → Leg → Option FileCode

@@ -1,5 +1,4 @@
 pub mod Limits
-pub mod Rows
 pub mod Drafts
 pub mod Columns
 pub mod Faults

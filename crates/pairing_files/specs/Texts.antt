@@ -5,14 +5,9 @@ use Rattle.duty_calendar.specs.declared.horizon.Horizon.{Horizon}
 use Rattle.duty_calendar.specs.declared.pairing.Duty.{Duty}
 use Rattle.duty_calendar.specs.declared.pairing.Leg.{Leg}
 use Rattle.duty_calendar.specs.declared.pairing.Pairing.{Pairing}
+use Rattle.field_text.specs.Rows.{line}
 use Rattle.field_text.specs.Spelling.{number_text, minutes_text, moment_text}
 use Rattle.pairing_files.specs.Columns.{pairings_header, duties_header, legs_header}
-
--- fields with commas between them, and a line feed at the end
-abbrev pub line : List (List ℕ) → List ℕ
-line [] = 10 ∷ []
-line (f ∷ []) = f ++ 10 ∷ []
-line (f ∷ g ∷ fs) = f ++ 44 ∷ line (g ∷ fs)
 
 unfoldable pub lines : List (List (List ℕ)) → List ℕ
 lines [] = []
@@ -28,11 +23,14 @@ pairing_fields p = p.name ∷ number_text p.need ∷ minutes_text p.credit ∷ [
 -- of the pairing of this name, and the duty's number in it
 abbrev pub duty_fields : Horizon → List ℕ → ℕ → Duty → List (List ℕ)
 duty_fields h name number d =
-    name ∷ number_text number ∷ moment_text h d.report ∷ moment_text h d.parked ∷ moment_text h d.release ∷ layover_text d.layover ∷ []
+    name ∷ number_text number
+    ∷ moment_text h d.report ∷ moment_text h d.parked ∷ moment_text h d.release
+    ∷ layover_text d.layover ∷ []
 
 abbrev pub leg_fields : Horizon → List ℕ → ℕ → Leg → List (List ℕ)
 leg_fields h name number l =
-    name ∷ number_text number ∷ l.from ∷ l.to ∷ moment_text h l.flown.out_at ∷ moment_text h l.flown.in_at ∷ []
+    name ∷ number_text number ∷ l.from ∷ l.to
+    ∷ moment_text h l.flown.out_at ∷ moment_text h l.flown.in_at ∷ []
 
 unfoldable pub pairing_rows : List Pairing → List (List (List ℕ))
 pairing_rows [] = []
@@ -55,7 +53,8 @@ leg_rows h name number (l ∷ ls) = leg_fields h name number l ∷ leg_rows h na
 -- and of the duties from this number on
 unfoldable pub duties_leg_rows : Horizon → List ℕ → ℕ → List Duty → List (List (List ℕ))
 duties_leg_rows h name number [] = []
-duties_leg_rows h name number (d ∷ ds) = leg_rows h name number d.legs ++ duties_leg_rows h name (number + 1) ds
+duties_leg_rows h name number (d ∷ ds) =
+    leg_rows h name number d.legs ++ duties_leg_rows h name (number + 1) ds
 
 unfoldable pub all_leg_rows : Horizon → List Pairing → List (List (List ℕ))
 all_leg_rows h [] = []
@@ -76,7 +75,8 @@ LegEndsWithin h l = (l.flown.out_at ≤ horizon_end h) × (l.flown.in_at ≤ hor
 
 abbrev pub DutyEndsWithin : Horizon → Duty → Type 0
 DutyEndsWithin h d =
-    (d.report ≤ horizon_end h) × (d.parked ≤ horizon_end h) × (d.release ≤ horizon_end h) × All (LegEndsWithin h) d.legs
+    (d.report ≤ horizon_end h) × (d.parked ≤ horizon_end h) × (d.release ≤ horizon_end h)
+    × All (LegEndsWithin h) d.legs
 
 abbrev pub EndWithin : Horizon → List Pairing → Type 0
 EndWithin h list = All (λ p. All (DutyEndsWithin h) p.duties) list

@@ -2,20 +2,19 @@
 ghost use Rattle.std.specs.Prelude.{◌≡◌, ◌≢◌, ◌≤◌, ◌<◌, ◌+◌, [], ◌∷◌, length, map, true, false, IfOk, IfErr, OnOk, MatchResult};
 ghost use Rattle.csv.specs.Records.{fields_of};
 ghost use Rattle.field_text.specs.Sizes.{longest};
-ghost use Rattle.field_text.specs.Rows.{Gives, file, rows_from, same_record};
-ghost use Rattle.field_text.specs.declared.file_fault.FileCode.TheVariants.{NoMemory, Header};
+ghost use Rattle.field_text.specs.Rows.{file, rows_from, same_record};
+ghost use Rattle.field_text.specs.declared.file_fault.FileCode.TheVariants.{NoMemory};
 ghost use Rattle.field_text.specs.declared.file_fault.FileName.TheVariants.{Pairings, Duties, Legs};
 ghost use Rattle.pairing_files.specs.Columns.{pairings_header, duties_header, legs_header};
 ghost use Rattle.pairing_files.specs.Drafts.{draft_of, IsNamed};
 ghost use Rattle.pairing_files.specs.Files.{pairing_row, duty_row, leg_row, pairings_file, duties_file, legs_file};
-ghost use Rattle.pairing_files.specs.Steps.{BeginsWith, LacksHeader};
+ghost use Rattle.pairing_files.specs.Steps.{Adds, BeginsWith, IsHeaderFault};
 
-use crate::rows::{at_row, next};
 use crate::steps::{add_duty_row, add_leg_row, add_pairing_row};
 use crate::tables::Tables;
 use csv::ByteRecord;
 use duty_calendar::Horizon;
-use field_text::{FileCode, FileFault, FileName, Records, bytes_at};
+use field_text::{FileCode, FileFault, FileName, Records, at_row, bytes_at, next};
 use std::alloc::Global;
 
 static PAIRINGS_HEADER: [&[u8]; 3] = [b"pairing", b"need", b"credit"];
@@ -49,8 +48,10 @@ fn read_header(
     header: &[&[u8]],
 ) -> Result<(), FileFault>
     ensures there { OnOk result (BeginsWith (map (λ f. f.now) header.now) records.old records.new) }
-    ensures fault { IfErr result (λ e. e.code ≢ NoMemory → LacksHeader (map (λ f. f.now) header.now) records.old × (e ≡ record { file = file; row = 1; code = Header })) }
-    ensures memory { IfErr result (λ e. e.code ≡ NoMemory → e.row ≡ 0) }
+    ensures fault { IfErr result (λ e. e.code ≢ NoMemory
+        → IsHeaderFault file (map (λ f. f.now) header.now) records.old e) }
+    ensures no_row { IfErr result (λ e. e.code ≡ NoMemory → e.row ≡ 0) }
+    ensures named_file { IfErr result (λ e. e.file ≡ file) }
 {
     let Some(row) = next(alloc, file, records)? else {
         return Err(at_row(file, 1, FileCode::Header));
@@ -69,9 +70,11 @@ fn read_pairing_rows(
 ) -> Result<(), FileFault>
     requires short { length records.old ≤ longest }
     requires named { IsNamed tables.old }
-    ensures rows { Gives (λ _. draft_of tables.new) result (rows_from Pairings pairing_row 2 (draft_of tables.old) records.old) }
+    ensures rows { Adds tables.old tables.new result
+        (λ d. rows_from Pairings pairing_row 2 d records.old) }
     ensures named { OnOk result (IsNamed tables.new) }
-    ensures memory { IfErr result (λ e. e.code ≡ NoMemory → e.row ≡ 0) }
+    ensures no_row { IfErr result (λ e. e.code ≡ NoMemory → e.row ≡ 0) }
+    ensures named_file { IfErr result (λ e. e.file ≡ Pairings) }
 {
     let mut row = 2;
     'rows: while let Some(raw) = next(alloc, FileName::Pairings, records)? {
@@ -92,9 +95,11 @@ fn read_duty_rows(
 ) -> Result<(), FileFault>
     requires short { length records.old ≤ longest }
     requires named { IsNamed tables.old }
-    ensures rows { Gives (λ _. draft_of tables.new) result (rows_from Duties (duty_row horizon.now) 2 (draft_of tables.old) records.old) }
+    ensures rows { Adds tables.old tables.new result
+        (λ d. rows_from Duties (duty_row horizon.now) 2 d records.old) }
     ensures named { OnOk result (IsNamed tables.new) }
-    ensures memory { IfErr result (λ e. e.code ≡ NoMemory → e.row ≡ 0) }
+    ensures no_row { IfErr result (λ e. e.code ≡ NoMemory → e.row ≡ 0) }
+    ensures named_file { IfErr result (λ e. e.file ≡ Duties) }
 {
     let mut row = 2;
     'rows: while let Some(raw) = next(alloc, FileName::Duties, records)? {
@@ -115,9 +120,11 @@ fn read_leg_rows(
 ) -> Result<(), FileFault>
     requires short { length records.old ≤ longest }
     requires named { IsNamed tables.old }
-    ensures rows { Gives (λ _. draft_of tables.new) result (rows_from Legs (leg_row horizon.now) 2 (draft_of tables.old) records.old) }
+    ensures rows { Adds tables.old tables.new result
+        (λ d. rows_from Legs (leg_row horizon.now) 2 d records.old) }
     ensures named { OnOk result (IsNamed tables.new) }
-    ensures memory { IfErr result (λ e. e.code ≡ NoMemory → e.row ≡ 0) }
+    ensures no_row { IfErr result (λ e. e.code ≡ NoMemory → e.row ≡ 0) }
+    ensures named_file { IfErr result (λ e. e.file ≡ Legs) }
 {
     let mut row = 2;
     'rows: while let Some(raw) = next(alloc, FileName::Legs, records)? {
@@ -137,9 +144,11 @@ fn read_pairing_records(
 ) -> Result<(), FileFault>
     requires short { length records.old ≤ longest + 1 }
     requires named { IsNamed tables.old }
-    ensures file { Gives (λ _. draft_of tables.new) result (file Pairings pairings_header pairing_row (draft_of tables.old) records.old) }
+    ensures file { Adds tables.old tables.new result
+        (λ d. file Pairings pairings_header pairing_row d records.old) }
     ensures named { OnOk result (IsNamed tables.new) }
-    ensures memory { IfErr result (λ e. e.code ≡ NoMemory → e.row ≡ 0) }
+    ensures no_row { IfErr result (λ e. e.code ≡ NoMemory → e.row ≡ 0) }
+    ensures named_file { IfErr result (λ e. e.file ≡ Pairings) }
 {
     if let Err(fault) = read_header(alloc, FileName::Pairings, records, &PAIRINGS_HEADER) {
         return Err(fault);
@@ -151,9 +160,10 @@ fn read_pairing_records(
 pub fn read_pairing_file(alloc: Global, tables: &mut Tables, text: &[u8]) -> Result<(), FileFault>
     requires short { length text.now ≤ longest }
     requires named { IsNamed tables.old }
-    ensures file { Gives (λ _. draft_of tables.new) result (pairings_file text.now (draft_of tables.old)) }
+    ensures file { Adds tables.old tables.new result (pairings_file text.now) }
     ensures named { OnOk result (IsNamed tables.new) }
-    ensures memory { IfErr result (λ e. e.code ≡ NoMemory → e.row ≡ 0) }
+    ensures no_row { IfErr result (λ e. e.code ≡ NoMemory → e.row ≡ 0) }
+    ensures named_file { IfErr result (λ e. e.file ≡ Pairings) }
 {
     let mut records = Records::new(alloc, text);
     read_pairing_records(alloc, tables, &mut records)
@@ -168,9 +178,11 @@ fn read_duty_records(
 ) -> Result<(), FileFault>
     requires short { length records.old ≤ longest + 1 }
     requires named { IsNamed tables.old }
-    ensures file { Gives (λ _. draft_of tables.new) result (file Duties duties_header (duty_row horizon.now) (draft_of tables.old) records.old) }
+    ensures file { Adds tables.old tables.new result
+        (λ d. file Duties duties_header (duty_row horizon.now) d records.old) }
     ensures named { OnOk result (IsNamed tables.new) }
-    ensures memory { IfErr result (λ e. e.code ≡ NoMemory → e.row ≡ 0) }
+    ensures no_row { IfErr result (λ e. e.code ≡ NoMemory → e.row ≡ 0) }
+    ensures named_file { IfErr result (λ e. e.file ≡ Duties) }
 {
     if let Err(fault) = read_header(alloc, FileName::Duties, records, &DUTIES_HEADER) {
         return Err(fault);
@@ -187,9 +199,10 @@ pub fn read_duty_file(
 ) -> Result<(), FileFault>
     requires short { length text.now ≤ longest }
     requires named { IsNamed tables.old }
-    ensures file { Gives (λ _. draft_of tables.new) result (duties_file horizon.now text.now (draft_of tables.old)) }
+    ensures file { Adds tables.old tables.new result (duties_file horizon.now text.now) }
     ensures named { OnOk result (IsNamed tables.new) }
-    ensures memory { IfErr result (λ e. e.code ≡ NoMemory → e.row ≡ 0) }
+    ensures no_row { IfErr result (λ e. e.code ≡ NoMemory → e.row ≡ 0) }
+    ensures named_file { IfErr result (λ e. e.file ≡ Duties) }
 {
     let mut records = Records::new(alloc, text);
     read_duty_records(alloc, tables, &mut records, horizon)
@@ -204,9 +217,11 @@ fn read_leg_records(
 ) -> Result<(), FileFault>
     requires short { length records.old ≤ longest + 1 }
     requires named { IsNamed tables.old }
-    ensures file { Gives (λ _. draft_of tables.new) result (file Legs legs_header (leg_row horizon.now) (draft_of tables.old) records.old) }
+    ensures file { Adds tables.old tables.new result
+        (λ d. file Legs legs_header (leg_row horizon.now) d records.old) }
     ensures named { OnOk result (IsNamed tables.new) }
-    ensures memory { IfErr result (λ e. e.code ≡ NoMemory → e.row ≡ 0) }
+    ensures no_row { IfErr result (λ e. e.code ≡ NoMemory → e.row ≡ 0) }
+    ensures named_file { IfErr result (λ e. e.file ≡ Legs) }
 {
     if let Err(fault) = read_header(alloc, FileName::Legs, records, &LEGS_HEADER) {
         return Err(fault);
@@ -223,9 +238,10 @@ pub fn read_leg_file(
 ) -> Result<(), FileFault>
     requires short { length text.now ≤ longest }
     requires named { IsNamed tables.old }
-    ensures file { Gives (λ _. draft_of tables.new) result (legs_file horizon.now text.now (draft_of tables.old)) }
+    ensures file { Adds tables.old tables.new result (legs_file horizon.now text.now) }
     ensures named { OnOk result (IsNamed tables.new) }
-    ensures memory { IfErr result (λ e. e.code ≡ NoMemory → e.row ≡ 0) }
+    ensures no_row { IfErr result (λ e. e.code ≡ NoMemory → e.row ≡ 0) }
+    ensures named_file { IfErr result (λ e. e.file ≡ Legs) }
 {
     let mut records = Records::new(alloc, text);
     read_leg_records(alloc, tables, &mut records, horizon)

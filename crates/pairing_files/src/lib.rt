@@ -8,7 +8,6 @@ mod parts;
 mod printer;
 mod reader;
 mod row;
-mod rows;
 mod steps;
 mod tables;
 

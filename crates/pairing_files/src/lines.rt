@@ -2,7 +2,8 @@
 ghost use Rattle.std.specs.Prelude.{◌≡◌, ◌++◌, ◌∷◌, [], ◌≤◌, ◌+◌, OnOk, All, length, decimal};
 ghost use Rattle.duty_calendar.specs.Calendar.{horizon_end};
 ghost use Rattle.field_text.specs.Spelling.{number_text, moment_text, minutes_text};
-ghost use Rattle.pairing_files.specs.Texts.{line, lines, layover_text, pairing_fields, duty_fields, leg_fields, pairing_rows, duty_rows, all_duty_rows, leg_rows, duties_leg_rows, all_leg_rows, LegEndsWithin, DutyEndsWithin, EndWithin};
+ghost use Rattle.pairing_files.specs.Texts.{lines, layover_text, pairing_fields, duty_fields, leg_fields, pairing_rows, duty_rows, all_duty_rows, leg_rows, duties_leg_rows, all_leg_rows, LegEndsWithin, DutyEndsWithin, EndWithin};
+ghost use Rattle.field_text.specs.Rows.{line};
 
 use duty_calendar::{Duty, Horizon, Leg, List, Memory, Pairing, Station};
 use field_text::{put_bytes, put_minutes, put_moment};
@@ -10,7 +11,7 @@ use itoa::Buffer;
 
 /// Appends bytes, and one more behind them.
 fn put_field(out: &mut List<u8>, bytes: &[u8], end: u8) -> Result<(), Memory>
-    ensures text { OnOk result (out.new ≡ out.old ++ (bytes.now ++ end ∷ [])) }
+    ensures whole { OnOk result (out.new ≡ out.old ++ (bytes.now ++ end ∷ [])) }
 {
     put_bytes(out, bytes)?;
     put_bytes(out, &[end])
@@ -18,7 +19,7 @@ fn put_field(out: &mut List<u8>, bytes: &[u8], end: u8) -> Result<(), Memory>
 
 /// Appends a number, and a comma behind it.
 fn put_number_field(out: &mut List<u8>, value: u64) -> Result<(), Memory>
-    ensures text { OnOk result (out.new ≡ out.old ++ (decimal value ++ 44 ∷ [])) }
+    ensures whole { OnOk result (out.new ≡ out.old ++ (decimal value ++ 44 ∷ [])) }
 {
     let mut buffer = Buffer::new();
     put_field(out, buffer.format(value).as_bytes(), b',')
@@ -26,7 +27,7 @@ fn put_number_field(out: &mut List<u8>, value: u64) -> Result<(), Memory>
 
 /// Appends minutes, and a line feed behind them.
 fn put_minutes_field(out: &mut List<u8>, minutes: u32) -> Result<(), Memory>
-    ensures text { OnOk result (out.new ≡ out.old ++ (minutes_text minutes ++ 10 ∷ [])) }
+    ensures whole { OnOk result (out.new ≡ out.old ++ (minutes_text minutes ++ 10 ∷ [])) }
 {
     put_minutes(out, minutes)?;
     put_bytes(out, b"\n")
@@ -40,7 +41,8 @@ fn put_moment_field(
     end: u8,
 ) -> Result<(), Memory>
     requires within { minute ≤ horizon_end horizon.now }
-    ensures text { OnOk result (out.new ≡ out.old ++ (moment_text horizon.now minute ++ end ∷ [])) }
+    ensures whole { OnOk result (out.new ≡ out.old
+        ++ (moment_text horizon.now minute ++ end ∷ [])) }
 {
     put_moment(out, minute, horizon)?;
     put_bytes(out, &[end])
@@ -48,7 +50,7 @@ fn put_moment_field(
 
 /// Appends a layover, where there is one, and a line feed.
 fn put_layover(out: &mut List<u8>, layover: Option<Station>) -> Result<(), Memory>
-    ensures text { OnOk result (out.new ≡ out.old ++ (layover_text layover ++ 10 ∷ [])) }
+    ensures whole { OnOk result (out.new ≡ out.old ++ (layover_text layover ++ 10 ∷ [])) }
 {
     match layover {
         Some(station) => put_field(out, &station.bytes(), b'\n'),
@@ -58,7 +60,7 @@ fn put_layover(out: &mut List<u8>, layover: Option<Station>) -> Result<(), Memor
 
 /// Appends the line of a pairing.
 fn put_pairing_line(out: &mut List<u8>, pairing: &Pairing) -> Result<(), Memory>
-    ensures text { OnOk result (out.new ≡ out.old ++ line (pairing_fields pairing.now)) }
+    ensures whole { OnOk result (out.new ≡ out.old ++ line (pairing_fields pairing.now)) }
 {
     put_field(out, pairing.name.bytes(), b',')?;
     put_number_field(out, u64::from(pairing.need))?;
@@ -77,7 +79,8 @@ fn put_duty_line(
     requires report { duty.now.report ≤ horizon_end horizon.now }
     requires parked { duty.now.parked ≤ horizon_end horizon.now }
     requires release { duty.now.release ≤ horizon_end horizon.now }
-    ensures text { OnOk result (out.new ≡ out.old ++ line (duty_fields horizon.now name.now number duty.now)) }
+    ensures whole { OnOk result (out.new ≡ out.old
+        ++ line (duty_fields horizon.now name.now number duty.now)) }
 {
     put_field(out, name, b',')?;
     put_number_field(out, number)?;
@@ -98,7 +101,8 @@ fn put_leg_line(
 ) -> Result<(), Memory>
     requires out_at { leg.now.flown.out_at ≤ horizon_end horizon.now }
     requires in_at { leg.now.flown.in_at ≤ horizon_end horizon.now }
-    ensures text { OnOk result (out.new ≡ out.old ++ line (leg_fields horizon.now name.now number leg.now)) }
+    ensures whole { OnOk result (out.new ≡ out.old
+        ++ line (leg_fields horizon.now name.now number leg.now)) }
 {
     put_field(out, name, b',')?;
     put_number_field(out, number)?;
@@ -111,7 +115,7 @@ fn put_leg_line(
 
 /// Appends the lines of pairings.
 pub fn put_pairing_lines(out: &mut List<u8>, list: &[Pairing]) -> Result<(), Memory>
-    ensures text { OnOk result (out.new ≡ out.old ++ lines (pairing_rows list.now)) }
+    ensures whole { OnOk result (out.new ≡ out.old ++ lines (pairing_rows list.now)) }
 {
     for pairing in list {
         put_pairing_line(out, pairing)?;
@@ -127,7 +131,8 @@ fn put_duty_lines(
     horizon: &Horizon,
 ) -> Result<(), Memory>
     requires within { All (DutyEndsWithin horizon.now) duties.now }
-    ensures text { OnOk result (out.new ≡ out.old ++ lines (duty_rows horizon.now name.now 1 duties.now)) }
+    ensures whole { OnOk result (out.new ≡ out.old
+        ++ lines (duty_rows horizon.now name.now 1 duties.now)) }
 {
     for (i, duty) in duties.iter().enumerate() {
         put_duty_line(out, name, i as u64 + 1, duty, horizon)?;
@@ -142,7 +147,7 @@ pub fn put_all_duty_lines(
     horizon: &Horizon,
 ) -> Result<(), Memory>
     requires within { EndWithin horizon.now list.now }
-    ensures text { OnOk result (out.new ≡ out.old ++ lines (all_duty_rows horizon.now list.now)) }
+    ensures whole { OnOk result (out.new ≡ out.old ++ lines (all_duty_rows horizon.now list.now)) }
 {
     for pairing in list {
         put_duty_lines(
@@ -164,7 +169,8 @@ fn put_leg_lines(
     horizon: &Horizon,
 ) -> Result<(), Memory>
     requires within { All (LegEndsWithin horizon.now) legs.now }
-    ensures text { OnOk result (out.new ≡ out.old ++ lines (leg_rows horizon.now name.now number legs.now)) }
+    ensures whole { OnOk result (out.new ≡ out.old
+        ++ lines (leg_rows horizon.now name.now number legs.now)) }
 {
     for leg in legs {
         put_leg_line(out, name, number, leg, horizon)?;
@@ -180,7 +186,8 @@ fn put_duties_leg_lines(
     horizon: &Horizon,
 ) -> Result<(), Memory>
     requires within { All (DutyEndsWithin horizon.now) duties.now }
-    ensures text { OnOk result (out.new ≡ out.old ++ lines (duties_leg_rows horizon.now name.now 1 duties.now)) }
+    ensures whole { OnOk result (out.new ≡ out.old
+        ++ lines (duties_leg_rows horizon.now name.now 1 duties.now)) }
 {
     for (i, duty) in duties.iter().enumerate() {
         put_leg_lines(out, name, i as u64 + 1, duty.legs.as_slice(), horizon)?;
@@ -195,7 +202,7 @@ pub fn put_all_leg_lines(
     horizon: &Horizon,
 ) -> Result<(), Memory>
     requires within { EndWithin horizon.now list.now }
-    ensures text { OnOk result (out.new ≡ out.old ++ lines (all_leg_rows horizon.now list.now)) }
+    ensures whole { OnOk result (out.new ≡ out.old ++ lines (all_leg_rows horizon.now list.now)) }
 {
     for pairing in list {
         put_duties_leg_lines(

@@ -11,7 +11,7 @@ use field_text::{FileCode, FileFault, FileName};
 
 /// The place of the first pairing without a duty.
 fn idle_place(list: &[Pairing]) -> Option<usize>
-    ensures place { result ≡ position is_idle list.now }
+    ensures value { result ≡ position is_idle list.now }
 {
     list.iter().position(|p| p.duties.len() == 0)
 }
@@ -31,7 +31,7 @@ fn is_bare(list: &[Pairing], place: &Place) -> bool
 
 /// The number of the first place whose duty has no leg.
 fn bare_place(list: &[Pairing], places: &[Place]) -> Option<usize>
-    ensures place { result ≡ position (is_bare list.now) places.now }
+    ensures value { result ≡ position (is_bare list.now) places.now }
 {
     places.iter().position(|place| is_bare(list, place))
 }

@@ -18,7 +18,7 @@ pub struct PairingTexts {
 }
 
 fn pairings_text(alloc: Global, list: &[Pairing]) -> Result<List<u8>, Memory>
-    ensures text { IfOk result (λ text. text ≡ pairings_text list.now) }
+    ensures whole { IfOk result (λ text. text ≡ pairings_text list.now) }
 {
     let mut out = List::new(alloc);
     put_bytes(&mut out, b"pairing,need,credit\n")?;
@@ -28,7 +28,7 @@ fn pairings_text(alloc: Global, list: &[Pairing]) -> Result<List<u8>, Memory>
 
 fn duties_text(alloc: Global, list: &[Pairing], horizon: &Horizon) -> Result<List<u8>, Memory>
     requires within { EndWithin horizon.now list.now }
-    ensures text { IfOk result (λ text. text ≡ duties_text horizon.now list.now) }
+    ensures whole { IfOk result (λ text. text ≡ duties_text horizon.now list.now) }
 {
     let mut out = List::new(alloc);
     put_bytes(&mut out, b"pairing,no,report,parked,release,layover\n")?;
@@ -38,7 +38,7 @@ fn duties_text(alloc: Global, list: &[Pairing], horizon: &Horizon) -> Result<Lis
 
 fn legs_text(alloc: Global, list: &[Pairing], horizon: &Horizon) -> Result<List<u8>, Memory>
     requires within { EndWithin horizon.now list.now }
-    ensures text { IfOk result (λ text. text ≡ legs_text horizon.now list.now) }
+    ensures whole { IfOk result (λ text. text ≡ legs_text horizon.now list.now) }
 {
     let mut out = List::new(alloc);
     put_bytes(&mut out, b"pairing,no,from,to,out,in\n")?;
@@ -56,7 +56,8 @@ pub fn put_pairings(
     ensures pairings { IfOk result (λ texts. texts.pairings ≡ pairings_text list.now) }
     ensures duties { IfOk result (λ texts. texts.duties ≡ duties_text horizon.now list.now) }
     ensures legs { IfOk result (λ texts. texts.legs ≡ legs_text horizon.now list.now) }
-    ensures again { IfOk result (λ texts. ArePairings horizon.now list.now → pairings_of horizon.now texts.pairings texts.duties texts.legs ≡ Ok list.now) }
+    ensures again { IfOk result (λ texts. ArePairings horizon.now list.now
+        → pairings_of horizon.now texts.pairings texts.duties texts.legs ≡ Ok list.now) }
 {
     Ok(PairingTexts {
         pairings: pairings_text(alloc, list)?,

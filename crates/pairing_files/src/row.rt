@@ -5,11 +5,11 @@ ghost use Rattle.field_text.specs.Sizes.{longest};
 ghost use Rattle.field_text.specs.Records.{AreWithin};
 ghost use Rattle.pairing_files.specs.Columns.{layover_field, pairing_columns, duty_columns, leg_columns};
 
-use crate::rows::in_column;
 use csv::StringRecord;
 use duty_calendar::{Duty, Flown, Horizon, Leg, List, Name, Pairing, Station};
 use field_text::{
-    FieldFault, FileCode, read_minutes, read_moment, read_name, read_number, read_station, text_at,
+    FieldFault, FileCode, in_column, read_minutes, read_moment, read_name, read_number,
+    read_station, text_at,
 };
 use std::alloc::Global;
 

@@ -1,14 +1,15 @@
 //! One row of each file, after the rows before it.
-ghost use Rattle.std.specs.Prelude.{◌≡◌, ◌≢◌, [], ◌∷◌, ◌≤◌, ◌<◌, length, true, Ok, OnOk, IfOk, IfSome, slice_get, option_copied, Some};
+ghost use Rattle.std.specs.Prelude.{◌≡◌, ◌≢◌, [], ◌∷◌, ◌≤◌, ◌<◌, length, true, Ok, Err, OnOk, IfOk, IfErr, IfSome, slice_get, option_copied, Some};
 ghost use Rattle.std.specs.List.{list_all};
+ghost use Rattle.std.specs.Result.{result_map_both};
 ghost use Rattle.csv.specs.Records.{fields_of};
 ghost use Rattle.field_text.specs.Sizes.{longest};
 ghost use Rattle.field_text.specs.Records.{AreWithin};
+ghost use Rattle.field_text.specs.declared.file_fault.FileCode.TheVariants.{NoMemory};
 ghost use Rattle.pairing_files.specs.Drafts.{draft_of, place_of, IsNamed};
 ghost use Rattle.pairing_files.specs.Faults.{numbered};
 ghost use Rattle.pairing_files.specs.Files.{pairing_row, duty_row, leg_row, place_pairing, place_duty, place_leg};
-ghost use Rattle.pairing_files.specs.Rows.{text_row};
-ghost use Rattle.pairing_files.specs.Steps.{RowGives};
+ghost use Rattle.field_text.specs.Rows.{text_row};
 
 use crate::fault::{duty_fault, leg_fault};
 use crate::row::{DutyRow, LegRow, duty_columns, leg_columns, pairing_columns};
@@ -20,7 +21,8 @@ use std::alloc::Global;
 
 /// A record of so many fields as text.
 fn text_of(raw: ByteRecord, width: usize) -> Result<StringRecord, FileCode>
-    ensures row { RowGives (λ row. fields_of row) result (text_row width (fields_of raw) (Ok (fields_of raw))) }
+    ensures value { result_map_both fields_of (λ e. e) result
+        ≡ text_row width (fields_of raw) (Ok (fields_of raw)) }
 {
     let row = as_text(raw)?;
     if row.len() != width {
@@ -32,7 +34,10 @@ fn text_of(raw: ByteRecord, width: usize) -> Result<StringRecord, FileCode>
 /// Adds a pairing, where nothing is wrong with it.
 fn place_pairing(alloc: Global, tables: &mut Tables, pairing: Pairing) -> Result<(), FileCode>
     requires named { IsNamed tables.old }
-    ensures row { RowGives (λ _. draft_of tables.new) result (place_pairing (draft_of tables.old) pairing) }
+    ensures ok { OnOk result (place_pairing (draft_of tables.old) pairing
+        ≡ Ok (draft_of tables.new)) }
+    ensures fault { IfErr result (λ e. e ≢ NoMemory
+        → place_pairing (draft_of tables.old) pairing ≡ Err e) }
     ensures named { OnOk result (IsNamed tables.new) }
 {
     if let Some(code) = tables.pairing_fault(&pairing) {
@@ -45,7 +50,10 @@ fn place_pairing(alloc: Global, tables: &mut Tables, pairing: Pairing) -> Result
 pub fn add_pairing_row(alloc: Global, tables: &mut Tables, raw: ByteRecord) -> Result<(), FileCode>
     requires short { AreWithin longest (fields_of raw) }
     requires named { IsNamed tables.old }
-    ensures row { RowGives (λ _. draft_of tables.new) result (pairing_row (draft_of tables.old) (fields_of raw)) }
+    ensures ok { OnOk result (pairing_row (draft_of tables.old) (fields_of raw)
+        ≡ Ok (draft_of tables.new)) }
+    ensures fault { IfErr result (λ e. e ≢ NoMemory
+        → pairing_row (draft_of tables.old) (fields_of raw) ≡ Err e) }
     ensures named { OnOk result (IsNamed tables.new) }
 {
     let row = text_of(raw, 3)?;
@@ -74,7 +82,10 @@ fn numbered(duties: &[Duty], number: u32) -> Option<&Duty>
 /// Adds a duty, where nothing is wrong with it.
 fn place_duty(tables: &mut Tables, row: DutyRow, horizon: &Horizon) -> Result<(), FileCode>
     requires named { IsNamed tables.old }
-    ensures row { RowGives (λ _. draft_of tables.new) result (place_duty horizon.now (draft_of tables.old) row) }
+    ensures ok { OnOk result (place_duty horizon.now (draft_of tables.old) row
+        ≡ Ok (draft_of tables.new)) }
+    ensures fault { IfErr result (λ e. e ≢ NoMemory
+        → place_duty horizon.now (draft_of tables.old) row ≡ Err e) }
     ensures named { OnOk result (IsNamed tables.new) }
 {
     let Some(place) = tables.place_of(&row.name) else {
@@ -98,7 +109,10 @@ pub fn add_duty_row(
 ) -> Result<(), FileCode>
     requires short { AreWithin longest (fields_of raw) }
     requires named { IsNamed tables.old }
-    ensures row { RowGives (λ _. draft_of tables.new) result (duty_row horizon.now (draft_of tables.old) (fields_of raw)) }
+    ensures ok { OnOk result (duty_row horizon.now (draft_of tables.old) (fields_of raw)
+        ≡ Ok (draft_of tables.new)) }
+    ensures fault { IfErr result (λ e. e ≢ NoMemory
+        → duty_row horizon.now (draft_of tables.old) (fields_of raw) ≡ Err e) }
     ensures named { OnOk result (IsNamed tables.new) }
 {
     let row = text_of(raw, 6)?;
@@ -109,7 +123,10 @@ pub fn add_duty_row(
 /// Adds a leg, where nothing is wrong with it.
 fn place_leg(tables: &mut Tables, row: &LegRow) -> Result<(), FileCode>
     requires named { IsNamed tables.old }
-    ensures row { RowGives (λ _. draft_of tables.new) result (place_leg (draft_of tables.old) row.now) }
+    ensures ok { OnOk result (place_leg (draft_of tables.old) row.now
+        ≡ Ok (draft_of tables.new)) }
+    ensures fault { IfErr result (λ e. e ≢ NoMemory
+        → place_leg (draft_of tables.old) row.now ≡ Err e) }
     ensures named { OnOk result (IsNamed tables.new) }
 {
     let Some(place) = tables.place_of(&row.name) else {
@@ -131,7 +148,10 @@ fn place_leg(tables: &mut Tables, row: &LegRow) -> Result<(), FileCode>
 pub fn add_leg_row(tables: &mut Tables, raw: ByteRecord, horizon: &Horizon) -> Result<(), FileCode>
     requires short { AreWithin longest (fields_of raw) }
     requires named { IsNamed tables.old }
-    ensures row { RowGives (λ _. draft_of tables.new) result (leg_row horizon.now (draft_of tables.old) (fields_of raw)) }
+    ensures ok { OnOk result (leg_row horizon.now (draft_of tables.old) (fields_of raw)
+        ≡ Ok (draft_of tables.new)) }
+    ensures fault { IfErr result (λ e. e ≢ NoMemory
+        → leg_row horizon.now (draft_of tables.old) (fields_of raw) ≡ Err e) }
     ensures named { OnOk result (IsNamed tables.new) }
 {
     let row = text_of(raw, 6)?;

@@ -21,7 +21,8 @@ pub struct Place {
     pub duty: usize,
 }
 
-/// The pairings with their names in the same order, and the places of the duties in the order of their rows.
+/// The pairings with their names in the same order, and the places of the duties in the order of
+/// their rows.
 #[derive(Drop)]
 pub struct Tables {
     pub names: IndexSet<Name>,
@@ -44,7 +45,7 @@ impl Tables {
     /// The place of the pairing of this name.
     pub fn place_of(&self, name: &Name) -> Option<usize>
         requires named { IsNamed self.now }
-        ensures place { result ≡ place_of name.now self.now.list }
+        ensures value { result ≡ place_of name.now self.now.list }
         ensures within { IfSome result (λ i. i < length self.now.list) }
     {
         self.names.get_index_of(name)
@@ -82,10 +83,10 @@ impl Tables {
     fn add_name(&mut self, alloc: Global, name: &Name) -> Result<(), FileCode>
         requires new { list_any (is_called name.now) self.old.list ≡ false }
         requires named { IsNamed self.old }
-        ensures added { OnOk result (self.new.names.keys ≡ self.old.names.keys ++ name.now ∷ []) }
+        ensures ok { OnOk result (self.new.names.keys ≡ self.old.names.keys ++ name.now ∷ []) }
         ensures list { self.new.list ≡ self.old.list }
         ensures places { self.new.places ≡ self.old.places }
-        ensures memory { IfErr result (λ e. e ≡ NoMemory) }
+        ensures fault { IfErr result (λ e. e ≡ NoMemory) }
     {
         let Ok(copied) = name.copy(alloc) else {
             return Err(FileCode::NoMemory);
@@ -100,9 +101,9 @@ impl Tables {
     pub fn add_pairing(&mut self, alloc: Global, pairing: Pairing) -> Result<(), FileCode>
         requires new { list_any (is_called pairing.name) self.old.list ≡ false }
         requires named { IsNamed self.old }
-        ensures added { OnOk result (draft_of self.new ≡ with_pairing (draft_of self.old) pairing) }
+        ensures ok { OnOk result (draft_of self.new ≡ with_pairing (draft_of self.old) pairing) }
         ensures named { OnOk result (IsNamed self.new) }
-        ensures memory { IfErr result (λ e. e ≡ NoMemory) }
+        ensures fault { IfErr result (λ e. e ≡ NoMemory) }
     {
         self.add_name(alloc, &pairing.name)?;
         if self.list.push(pairing).is_err() {
@@ -115,9 +116,10 @@ impl Tables {
     pub fn add_duty(&mut self, place: usize, duty: Duty) -> Result<(), FileCode>
         requires within { place < length self.old.list }
         requires named { IsNamed self.old }
-        ensures added { OnOk result ((p : Pairing) → slice_get self.old.list place ≡ Some p → draft_of self.new ≡ with_duty (draft_of self.old) place p duty) }
+        ensures ok { OnOk result ((p : Pairing) → slice_get self.old.list place ≡ Some p
+            → draft_of self.new ≡ with_duty (draft_of self.old) place p duty) }
         ensures named { OnOk result (IsNamed self.new) }
-        ensures memory { IfErr result (λ e. e ≡ NoMemory) }
+        ensures fault { IfErr result (λ e. e ≡ NoMemory) }
     {
         let pairing = self.list.at_mut(place);
         let at = Place {
@@ -136,12 +138,14 @@ impl Tables {
     /// Adds a leg to a duty of the pairing at a place, as its last.
     pub fn add_leg(&mut self, place: usize, duty: usize, leg: Leg) -> Result<(), FileCode>
         requires within { place < length self.old.list }
-        requires duty_within { ForSome (slice_get self.old.list place) (λ p. duty < length p.duties) }
+        requires duty_within { ForSome (slice_get self.old.list place)
+            (λ p. duty < length p.duties) }
         requires named { IsNamed self.old }
-        ensures added { OnOk result ((p : Pairing) (d : Duty) → slice_get self.old.list place ≡ Some p → slice_get p.duties duty ≡ Some d
+        ensures ok { OnOk result ((p : Pairing) (d : Duty)
+            → slice_get self.old.list place ≡ Some p → slice_get p.duties duty ≡ Some d
             → draft_of self.new ≡ with_leg (draft_of self.old) place p duty d leg) }
         ensures named { OnOk result (IsNamed self.new) }
-        ensures memory { IfErr result (λ e. e ≡ NoMemory) }
+        ensures fault { IfErr result (λ e. e ≡ NoMemory) }
     {
         let pairing = self.list.at_mut(place);
         let held = pairing.duties.at_mut(duty);

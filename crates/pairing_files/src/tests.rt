@@ -38,61 +38,62 @@ fn fault(file: FileName, row: u32, code: FileCode) -> Result<usize, FileFault> {
     Err(FileFault { file, row, code })
 }
 
+static PAIRING_FAULTS: [(&[u8], u32, FileCode); 17] = [
+    (b"", 1, FileCode::Header),
+    (b"pairing,need\n", 1, FileCode::Header),
+    (b"pairing,need,credit,\n", 1, FileCode::Header),
+    (b"\xFFairing,need,credit\n", 1, FileCode::Header),
+    (b"pairing,need,credit\nP1,\xC3,5:00\n", 2, FileCode::Utf8),
+    (b"pairing,need,credit\nP1,1,5:00\nP2\n", 3, FileCode::Width),
+    (
+        b"pairing,need,credit\nP1,1,5:60\n",
+        2,
+        FileCode::Field(3, FieldFault::Range),
+    ),
+    (
+        b"pairing,need,credit\n,x,5:60\n",
+        2,
+        FileCode::Field(1, FieldFault::Empty),
+    ),
+    (
+        b"pairing,need,credit\nP1,01,5:60\n",
+        2,
+        FileCode::Field(2, FieldFault::Shape(2)),
+    ),
+    (b"pairing,need,credit\nP1,10,5:00\n", 2, FileCode::Limit(5)),
+    (b"pairing,need,credit\nP1,0,5:00\n", 2, FileCode::Limit(5)),
+    (b"pairing,need,credit\nP1,1,200:01\n", 2, FileCode::Limit(6)),
+    (
+        b"pairing,need,credit\nP1,10,200:01\n",
+        2,
+        FileCode::Limit(5),
+    ),
+    (
+        b"pairing,need,credit\nP1,1,5:00\nP1,10,5:00\n",
+        3,
+        FileCode::Duplicate,
+    ),
+    (
+        b"pairing,need,credit\n\nP1,1,5:00\r\n\n\"P\n2\",1,5:00\n",
+        3,
+        FileCode::Field(1, FieldFault::Shape(2)),
+    ),
+    (
+        b"pairing,need,credit\nP1,10,5:00\nP1\n",
+        2,
+        FileCode::Limit(5),
+    ),
+    (
+        b"pairing,need,credit\nP1,1,5:00\nP2,9,200:00\nP3,1,0:00\n",
+        4,
+        FileCode::Empty,
+    ),
+];
+
 #[test]
 fn faults_of_pairings(rt: HostRuntime) -> Result<(), Fail> {
     let alloc = rt.alloc();
-    let cases: [(&[u8], u32, FileCode); 17] = [
-        (b"", 1, FileCode::Header),
-        (b"pairing,need\n", 1, FileCode::Header),
-        (b"pairing,need,credit,\n", 1, FileCode::Header),
-        (b"\xFFairing,need,credit\n", 1, FileCode::Header),
-        (b"pairing,need,credit\nP1,\xC3,5:00\n", 2, FileCode::Utf8),
-        (b"pairing,need,credit\nP1,1,5:00\nP2\n", 3, FileCode::Width),
-        (
-            b"pairing,need,credit\nP1,1,5:60\n",
-            2,
-            FileCode::Field(3, FieldFault::Range),
-        ),
-        (
-            b"pairing,need,credit\n,x,5:60\n",
-            2,
-            FileCode::Field(1, FieldFault::Empty),
-        ),
-        (
-            b"pairing,need,credit\nP1,01,5:60\n",
-            2,
-            FileCode::Field(2, FieldFault::Shape(2)),
-        ),
-        (b"pairing,need,credit\nP1,10,5:00\n", 2, FileCode::Limit(5)),
-        (b"pairing,need,credit\nP1,0,5:00\n", 2, FileCode::Limit(5)),
-        (b"pairing,need,credit\nP1,1,200:01\n", 2, FileCode::Limit(6)),
-        (
-            b"pairing,need,credit\nP1,10,200:01\n",
-            2,
-            FileCode::Limit(5),
-        ),
-        (
-            b"pairing,need,credit\nP1,1,5:00\nP1,10,5:00\n",
-            3,
-            FileCode::Duplicate,
-        ),
-        (
-            b"pairing,need,credit\n\nP1,1,5:00\r\n\n\"P\n2\",1,5:00\n",
-            3,
-            FileCode::Field(1, FieldFault::Shape(2)),
-        ),
-        (
-            b"pairing,need,credit\nP1,10,5:00\nP1\n",
-            2,
-            FileCode::Limit(5),
-        ),
-        (
-            b"pairing,need,credit\nP1,1,5:00\nP2,9,200:00\nP3,1,0:00\n",
-            4,
-            FileCode::Empty,
-        ),
-    ];
-    for (text, row, code) in cases {
+    for (text, row, code) in PAIRING_FAULTS {
         let read = count(alloc, text, DUTIES, LEGS);
         assert!(rt;
             read == fault(FileName::Pairings, row, code),
@@ -102,253 +103,240 @@ fn faults_of_pairings(rt: HostRuntime) -> Result<(), Fail> {
     Ok(())
 }
 
+static DUTY_FAULTS: [(&[u8], u32, FileCode); 21] = [
+    (b"", 1, FileCode::Header),
+    (b"pairing,no,report,parked,release\n", 1, FileCode::Header),
+    (
+        b"pairing,no,report,parked,release,layover\nP1,1,\xC3,x,y,\n",
+        2,
+        FileCode::Utf8,
+    ),
+    (
+        b"pairing,no,report,parked,release,layover\nP1,1,2026-06-10T08:00Z,2026-06-10T12:00Z,2026-06-10T12:30Z\n",
+        2,
+        FileCode::Width,
+    ),
+    (
+        b"pairing,no,report,parked,release,layover\nP1,1,2026-06-31T08:00Z,2026-06-10T12:00Z,2026-06-10T12:30Z,ord\n",
+        2,
+        FileCode::Field(3, FieldFault::NoSuchDay),
+    ),
+    (
+        b"pairing,no,report,parked,release,layover\nP1,1,2026-06-10T08:00Z,2026-06-10T12:00Z,2026-06-10T12:30Z,ord\n",
+        2,
+        FileCode::Field(6, FieldFault::Shape(1)),
+    ),
+    (
+        b"pairing,no,report,parked,release,layover\nP1,1,2026-06-10T08:00Z,2027-06-10T12:00Z,2026-06-10T12:30Z,\n",
+        2,
+        FileCode::Field(4, FieldFault::OutsideHorizon),
+    ),
+    (
+        b"pairing,no,report,parked,release,layover\nP1,1,2026-06-10T08:00Z,2026-06-10T12:00Z,2026-06-10T24:30Z,\n",
+        2,
+        FileCode::Field(5, FieldFault::Range),
+    ),
+    (
+        b"pairing,no,report,parked,release,layover\nP3,1,2026-06-10T08:00Z,2026-06-10T12:00Z,2026-06-10T12:30Z,\n",
+        2,
+        FileCode::Unknown,
+    ),
+    (
+        b"pairing,no,report,parked,release,layover\nP3,7,2026-06-10T13:00Z,2026-06-10T12:00Z,2026-06-10T12:30Z,\n",
+        2,
+        FileCode::Unknown,
+    ),
+    (
+        b"pairing,no,report,parked,release,layover\nP1,2,2026-06-10T08:00Z,2026-06-10T12:00Z,2026-06-10T12:30Z,\n",
+        2,
+        FileCode::Order,
+    ),
+    (
+        b"pairing,no,report,parked,release,layover\nP1,1,2026-06-10T13:00Z,2026-06-10T12:00Z,2026-06-10T12:30Z,\n",
+        2,
+        FileCode::Order,
+    ),
+    (
+        b"pairing,no,report,parked,release,layover\nP1,1,2026-06-10T08:00Z,2026-06-10T12:31Z,2026-06-10T12:30Z,\n",
+        2,
+        FileCode::Order,
+    ),
+    (
+        b"pairing,no,report,parked,release,layover\nP1,1,2026-06-10T12:30Z,2026-06-10T12:30Z,2026-06-10T12:30Z,\n",
+        2,
+        FileCode::Order,
+    ),
+    (
+        b"pairing,no,report,parked,release,layover\nP1,1,2026-05-31T23:59Z,2026-06-10T12:00Z,2026-06-10T12:30Z,\n",
+        2,
+        FileCode::OutsideMonth,
+    ),
+    (
+        b"pairing,no,report,parked,release,layover\nP1,1,2026-07-01T00:00Z,2026-07-01T12:00Z,2026-07-01T12:30Z,\n",
+        2,
+        FileCode::OutsideMonth,
+    ),
+    (
+        b"pairing,no,report,parked,release,layover\nP1,2,2026-07-01T00:00Z,2026-07-01T12:00Z,2026-07-01T12:30Z,\n",
+        2,
+        FileCode::Order,
+    ),
+    (
+        b"pairing,no,report,parked,release,layover\nP1,1,2026-06-10T08:00Z,2026-06-10T12:00Z,2026-06-10T22:00Z,\nP1,2,2026-06-11T07:59Z,2026-06-11T12:00Z,2026-06-11T12:30Z,\n",
+        3,
+        FileCode::InnerRest,
+    ),
+    (
+        b"pairing,no,report,parked,release,layover\nP1,1,2026-06-10T08:00Z,2026-06-10T12:00Z,2026-06-10T12:30Z,\nP1,2,2026-06-10T12:29Z,2026-06-10T13:00Z,2026-06-10T13:00Z,\n",
+        3,
+        FileCode::Order,
+    ),
+    (
+        b"pairing,no,report,parked,release,layover\nP1,1,2026-06-01T08:00Z,2026-06-01T12:00Z,2026-06-01T12:30Z,\nP1,2,2026-06-02T08:00Z,2026-06-02T12:00Z,2026-06-02T12:30Z,\nP1,3,2026-06-03T08:00Z,2026-06-03T12:00Z,2026-06-03T12:30Z,\nP1,4,2026-06-04T08:00Z,2026-06-04T12:00Z,2026-06-04T12:30Z,\nP1,5,2026-06-05T08:00Z,2026-06-05T12:00Z,2026-06-05T12:30Z,\nP1,6,2026-06-06T08:00Z,2026-06-06T12:00Z,2026-06-06T12:30Z,\nP1,7,2026-06-07T08:00Z,2026-06-07T12:00Z,2026-06-07T12:30Z,\nP1,8,2026-06-08T08:00Z,2026-06-08T12:00Z,2026-06-08T12:30Z,\nP1,9,2026-06-09T08:00Z,2026-06-09T12:00Z,2026-06-09T12:30Z,\nP1,10,2026-06-10T08:00Z,2026-06-10T12:00Z,2026-06-10T12:30Z,\nP1,11,2026-06-11T08:00Z,2026-06-11T12:00Z,2026-06-11T12:30Z,\nP1,12,2026-06-12T08:00Z,2026-06-12T12:00Z,2026-06-12T12:30Z,\nP1,13,2026-06-13T08:00Z,2026-06-13T12:00Z,2026-06-13T12:30Z,\n",
+        14,
+        FileCode::Limit(3),
+    ),
+    (
+        b"pairing,no,report,parked,release,layover\nP1,1,2026-06-10T08:00Z,2026-06-10T12:00Z,2026-06-10T12:30Z,\nP2,1,2026-06-12T08:00Z,2026-06-12T12:00Z,2026-06-12T12:30Z,\nP1,2,2026-06-11T08:00Z,2026-06-11T12:00Z,2026-06-11T12:30Z,\nP1,3,2026-06-13T08:00Z,2026-06-13T12:00Z,2026-06-13T12:30Z,\n",
+        5,
+        FileCode::Empty,
+    ),
+];
+
 #[test]
 fn faults_of_duties(rt: HostRuntime) -> Result<(), Fail> {
     let alloc = rt.alloc();
-    let cases: [(&[u8], u32, FileCode); 21] = [
-        (b"", 1, FileCode::Header),
-        (b"pairing,no,report,parked,release\n", 1, FileCode::Header),
-        (
-            b"pairing,no,report,parked,release,layover\nP1,1,\xC3,x,y,\n",
-            2,
-            FileCode::Utf8,
-        ),
-        (
-            b"pairing,no,report,parked,release,layover\nP1,1,2026-06-10T08:00Z,2026-06-10T12:00Z,2026-06-10T12:30Z\n",
-            2,
-            FileCode::Width,
-        ),
-        (
-            b"pairing,no,report,parked,release,layover\nP1,1,2026-06-31T08:00Z,2026-06-10T12:00Z,2026-06-10T12:30Z,ord\n",
-            2,
-            FileCode::Field(3, FieldFault::NoSuchDay),
-        ),
-        (
-            b"pairing,no,report,parked,release,layover\nP1,1,2026-06-10T08:00Z,2026-06-10T12:00Z,2026-06-10T12:30Z,ord\n",
-            2,
-            FileCode::Field(6, FieldFault::Shape(1)),
-        ),
-        (
-            b"pairing,no,report,parked,release,layover\nP1,1,2026-06-10T08:00Z,2027-06-10T12:00Z,2026-06-10T12:30Z,\n",
-            2,
-            FileCode::Field(4, FieldFault::OutsideHorizon),
-        ),
-        (
-            b"pairing,no,report,parked,release,layover\nP1,1,2026-06-10T08:00Z,2026-06-10T12:00Z,2026-06-10T24:30Z,\n",
-            2,
-            FileCode::Field(5, FieldFault::Range),
-        ),
-        (
-            b"pairing,no,report,parked,release,layover\nP3,1,2026-06-10T08:00Z,2026-06-10T12:00Z,2026-06-10T12:30Z,\n",
-            2,
-            FileCode::Unknown,
-        ),
-        (
-            b"pairing,no,report,parked,release,layover\nP3,7,2026-06-10T13:00Z,2026-06-10T12:00Z,2026-06-10T12:30Z,\n",
-            2,
-            FileCode::Unknown,
-        ),
-        (
-            b"pairing,no,report,parked,release,layover\nP1,2,2026-06-10T08:00Z,2026-06-10T12:00Z,2026-06-10T12:30Z,\n",
-            2,
-            FileCode::Order,
-        ),
-        (
-            b"pairing,no,report,parked,release,layover\nP1,1,2026-06-10T13:00Z,2026-06-10T12:00Z,2026-06-10T12:30Z,\n",
-            2,
-            FileCode::Order,
-        ),
-        (
-            b"pairing,no,report,parked,release,layover\nP1,1,2026-06-10T08:00Z,2026-06-10T12:31Z,2026-06-10T12:30Z,\n",
-            2,
-            FileCode::Order,
-        ),
-        (
-            b"pairing,no,report,parked,release,layover\nP1,1,2026-06-10T12:30Z,2026-06-10T12:30Z,2026-06-10T12:30Z,\n",
-            2,
-            FileCode::Order,
-        ),
-        (
-            b"pairing,no,report,parked,release,layover\nP1,1,2026-05-31T23:59Z,2026-06-10T12:00Z,2026-06-10T12:30Z,\n",
-            2,
-            FileCode::OutsideMonth,
-        ),
-        (
-            b"pairing,no,report,parked,release,layover\nP1,1,2026-07-01T00:00Z,2026-07-01T12:00Z,2026-07-01T12:30Z,\n",
-            2,
-            FileCode::OutsideMonth,
-        ),
-        (
-            b"pairing,no,report,parked,release,layover\nP1,2,2026-07-01T00:00Z,2026-07-01T12:00Z,2026-07-01T12:30Z,\n",
-            2,
-            FileCode::Order,
-        ),
-        (
-            b"pairing,no,report,parked,release,layover\nP1,1,2026-06-10T08:00Z,2026-06-10T12:00Z,2026-06-10T22:00Z,\nP1,2,2026-06-11T07:59Z,2026-06-11T12:00Z,2026-06-11T12:30Z,\n",
-            3,
-            FileCode::InnerRest,
-        ),
-        (
-            b"pairing,no,report,parked,release,layover\nP1,1,2026-06-10T08:00Z,2026-06-10T12:00Z,2026-06-10T12:30Z,\nP1,2,2026-06-10T12:29Z,2026-06-10T13:00Z,2026-06-10T13:00Z,\n",
-            3,
-            FileCode::Order,
-        ),
-        (
-            b"pairing,no,report,parked,release,layover\nP1,1,2026-06-01T08:00Z,2026-06-01T12:00Z,2026-06-01T12:30Z,\nP1,2,2026-06-02T08:00Z,2026-06-02T12:00Z,2026-06-02T12:30Z,\nP1,3,2026-06-03T08:00Z,2026-06-03T12:00Z,2026-06-03T12:30Z,\nP1,4,2026-06-04T08:00Z,2026-06-04T12:00Z,2026-06-04T12:30Z,\nP1,5,2026-06-05T08:00Z,2026-06-05T12:00Z,2026-06-05T12:30Z,\nP1,6,2026-06-06T08:00Z,2026-06-06T12:00Z,2026-06-06T12:30Z,\nP1,7,2026-06-07T08:00Z,2026-06-07T12:00Z,2026-06-07T12:30Z,\nP1,8,2026-06-08T08:00Z,2026-06-08T12:00Z,2026-06-08T12:30Z,\nP1,9,2026-06-09T08:00Z,2026-06-09T12:00Z,2026-06-09T12:30Z,\nP1,10,2026-06-10T08:00Z,2026-06-10T12:00Z,2026-06-10T12:30Z,\nP1,11,2026-06-11T08:00Z,2026-06-11T12:00Z,2026-06-11T12:30Z,\nP1,12,2026-06-12T08:00Z,2026-06-12T12:00Z,2026-06-12T12:30Z,\nP1,13,2026-06-13T08:00Z,2026-06-13T12:00Z,2026-06-13T12:30Z,\n",
-            14,
-            FileCode::Limit(3),
-        ),
-        (
-            b"pairing,no,report,parked,release,layover\nP1,1,2026-06-10T08:00Z,2026-06-10T12:00Z,2026-06-10T12:30Z,\nP2,1,2026-06-12T08:00Z,2026-06-12T12:00Z,2026-06-12T12:30Z,\nP1,2,2026-06-11T08:00Z,2026-06-11T12:00Z,2026-06-11T12:30Z,\nP1,3,2026-06-13T08:00Z,2026-06-13T12:00Z,2026-06-13T12:30Z,\n",
-            5,
-            FileCode::Empty,
-        ),
-    ];
-    for (text, row, code) in cases {
+    for (text, row, code) in DUTY_FAULTS {
         let read = count(alloc, PAIRINGS, text, LEGS);
         assert!(rt; read == fault(FileName::Duties, row, code), "at row {row}");
     }
     Ok(())
 }
 
+static LEG_FAULTS: [(&[u8], u32, FileCode); 16] = [
+    (b"", 1, FileCode::Header),
+    (b"pairing,no,from,to,out,off\n", 1, FileCode::Header),
+    (
+        b"pairing,no,from,to,out,in\nP1,1,DUB,ORD,\xC3,\n",
+        2,
+        FileCode::Utf8,
+    ),
+    (b"pairing,no,from,to,out,in\nP1,1,DUB\n", 2, FileCode::Width),
+    (
+        b"pairing,no,from,to,out,in\nP1,1,dub,ORD,2026-06-10T09:00Z,2026-06-10T11:00Z\n",
+        2,
+        FileCode::Field(3, FieldFault::Shape(1)),
+    ),
+    (
+        b"pairing,no,from,to,out,in\nP1,1,DUB,,2026-06-10T09:00Z,2026-06-10T11:00Z\n",
+        2,
+        FileCode::Field(4, FieldFault::Empty),
+    ),
+    (
+        b"pairing,no,from,to,out,in\nP1,1,DUB,ORD,2025-05-31T23:59Z,2026-06-10T11:00Z\n",
+        2,
+        FileCode::Field(5, FieldFault::OutsideHorizon),
+    ),
+    (
+        b"pairing,no,from,to,out,in\nP3,1,DUB,ORD,2026-06-10T09:00Z,2026-06-10T11:00Z\n",
+        2,
+        FileCode::Unknown,
+    ),
+    (
+        b"pairing,no,from,to,out,in\nP1,3,DUB,ORD,2026-06-10T09:00Z,2026-06-10T11:00Z\n",
+        2,
+        FileCode::Unknown,
+    ),
+    (
+        b"pairing,no,from,to,out,in\nP1,0,DUB,ORD,2026-06-10T09:00Z,2026-06-10T11:00Z\n",
+        2,
+        FileCode::Unknown,
+    ),
+    (
+        b"pairing,no,from,to,out,in\nP1,1,DUB,ORD,2026-06-10T07:59Z,2026-06-10T11:00Z\n",
+        2,
+        FileCode::Order,
+    ),
+    (
+        b"pairing,no,from,to,out,in\nP1,1,DUB,ORD,2026-06-10T09:00Z,2026-06-10T12:01Z\n",
+        2,
+        FileCode::Order,
+    ),
+    (
+        b"pairing,no,from,to,out,in\nP1,1,DUB,ORD,2026-06-10T11:00Z,2026-06-10T11:00Z\n",
+        2,
+        FileCode::Order,
+    ),
+    (
+        b"pairing,no,from,to,out,in\nP1,1,DUB,ORD,2026-06-10T09:00Z,2026-06-10T11:00Z\nP1,1,DUB,ORD,2026-06-10T10:59Z,2026-06-10T11:30Z\n",
+        3,
+        FileCode::Order,
+    ),
+    (
+        b"pairing,no,from,to,out,in\nP2,1,DUB,ORD,2026-06-12T08:00Z,2026-06-12T08:05Z\nP2,1,DUB,ORD,2026-06-12T08:05Z,2026-06-12T08:10Z\nP2,1,DUB,ORD,2026-06-12T08:10Z,2026-06-12T08:15Z\nP2,1,DUB,ORD,2026-06-12T08:15Z,2026-06-12T08:20Z\nP2,1,DUB,ORD,2026-06-12T08:20Z,2026-06-12T08:25Z\nP2,1,DUB,ORD,2026-06-12T08:25Z,2026-06-12T08:30Z\nP2,1,DUB,ORD,2026-06-12T08:30Z,2026-06-12T08:35Z\nP2,1,DUB,ORD,2026-06-12T08:35Z,2026-06-12T08:40Z\nP2,1,DUB,ORD,2026-06-12T08:40Z,2026-06-12T08:45Z\n",
+        10,
+        FileCode::Limit(4),
+    ),
+    (
+        b"pairing,no,from,to,out,in\nP1,1,DUB,ORD,2026-06-10T09:00Z,2026-06-10T11:00Z\nP3,1,DUB,ORD,2026-06-10T09:00Z,2026-06-10T11:00Z\nP1\n",
+        3,
+        FileCode::Unknown,
+    ),
+];
+
 #[test]
 fn faults_of_legs(rt: HostRuntime) -> Result<(), Fail> {
     let alloc = rt.alloc();
-    let cases: [(&[u8], u32, FileCode); 16] = [
-        (b"", 1, FileCode::Header),
-        (b"pairing,no,from,to,out,off\n", 1, FileCode::Header),
-        (
-            b"pairing,no,from,to,out,in\nP1,1,DUB,ORD,\xC3,\n",
-            2,
-            FileCode::Utf8,
-        ),
-        (b"pairing,no,from,to,out,in\nP1,1,DUB\n", 2, FileCode::Width),
-        (
-            b"pairing,no,from,to,out,in\nP1,1,dub,ORD,2026-06-10T09:00Z,2026-06-10T11:00Z\n",
-            2,
-            FileCode::Field(3, FieldFault::Shape(1)),
-        ),
-        (
-            b"pairing,no,from,to,out,in\nP1,1,DUB,,2026-06-10T09:00Z,2026-06-10T11:00Z\n",
-            2,
-            FileCode::Field(4, FieldFault::Empty),
-        ),
-        (
-            b"pairing,no,from,to,out,in\nP1,1,DUB,ORD,2025-05-31T23:59Z,2026-06-10T11:00Z\n",
-            2,
-            FileCode::Field(5, FieldFault::OutsideHorizon),
-        ),
-        (
-            b"pairing,no,from,to,out,in\nP3,1,DUB,ORD,2026-06-10T09:00Z,2026-06-10T11:00Z\n",
-            2,
-            FileCode::Unknown,
-        ),
-        (
-            b"pairing,no,from,to,out,in\nP1,3,DUB,ORD,2026-06-10T09:00Z,2026-06-10T11:00Z\n",
-            2,
-            FileCode::Unknown,
-        ),
-        (
-            b"pairing,no,from,to,out,in\nP1,0,DUB,ORD,2026-06-10T09:00Z,2026-06-10T11:00Z\n",
-            2,
-            FileCode::Unknown,
-        ),
-        (
-            b"pairing,no,from,to,out,in\nP1,1,DUB,ORD,2026-06-10T07:59Z,2026-06-10T11:00Z\n",
-            2,
-            FileCode::Order,
-        ),
-        (
-            b"pairing,no,from,to,out,in\nP1,1,DUB,ORD,2026-06-10T09:00Z,2026-06-10T12:01Z\n",
-            2,
-            FileCode::Order,
-        ),
-        (
-            b"pairing,no,from,to,out,in\nP1,1,DUB,ORD,2026-06-10T11:00Z,2026-06-10T11:00Z\n",
-            2,
-            FileCode::Order,
-        ),
-        (
-            b"pairing,no,from,to,out,in\nP1,1,DUB,ORD,2026-06-10T09:00Z,2026-06-10T11:00Z\nP1,1,DUB,ORD,2026-06-10T10:59Z,2026-06-10T11:30Z\n",
-            3,
-            FileCode::Order,
-        ),
-        (
-            b"pairing,no,from,to,out,in\nP2,1,DUB,ORD,2026-06-12T08:00Z,2026-06-12T08:05Z\nP2,1,DUB,ORD,2026-06-12T08:05Z,2026-06-12T08:10Z\nP2,1,DUB,ORD,2026-06-12T08:10Z,2026-06-12T08:15Z\nP2,1,DUB,ORD,2026-06-12T08:15Z,2026-06-12T08:20Z\nP2,1,DUB,ORD,2026-06-12T08:20Z,2026-06-12T08:25Z\nP2,1,DUB,ORD,2026-06-12T08:25Z,2026-06-12T08:30Z\nP2,1,DUB,ORD,2026-06-12T08:30Z,2026-06-12T08:35Z\nP2,1,DUB,ORD,2026-06-12T08:35Z,2026-06-12T08:40Z\nP2,1,DUB,ORD,2026-06-12T08:40Z,2026-06-12T08:45Z\n",
-            10,
-            FileCode::Limit(4),
-        ),
-        (
-            b"pairing,no,from,to,out,in\nP1,1,DUB,ORD,2026-06-10T09:00Z,2026-06-10T11:00Z\nP3,1,DUB,ORD,2026-06-10T09:00Z,2026-06-10T11:00Z\nP1\n",
-            3,
-            FileCode::Unknown,
-        ),
-    ];
-    for (text, row, code) in cases {
+    for (text, row, code) in LEG_FAULTS {
         let read = count(alloc, PAIRINGS, DUTIES, text);
         assert!(rt; read == fault(FileName::Legs, row, code), "at row {row}");
     }
     Ok(())
 }
 
+static ONE: &[u8] = b"pairing,need,credit\nP1,1,5:00\n";
+
+static RESTED: &[u8] =
+    b"pairing,no,report,parked,release,layover\nP1,1,2026-06-10T08:00Z,2026-06-10T12:00Z,2026-06-10T22:00Z,\nP1,2,2026-06-11T08:00Z,2026-06-11T12:00Z,2026-06-11T12:30Z,\n";
+
+static FLOWN: &[u8] =
+    b"pairing,no,from,to,out,in\nP1,2,DUB,ORD,2026-06-11T09:00Z,2026-06-11T11:00Z\nP1,1,DUB,ORD,2026-06-10T09:00Z,2026-06-10T11:00Z\n";
+
+static MARKED: &[u8] = b"\xEF\xBB\xBF\"pairing\",need,credit\r\n\n\"P1\",1,5:00\rP2,9,200:00";
+
+static NO_HEADER: &[u8] = b"x\n";
+
+static NO_DUTIES: &[u8] = b"pairing,no,report,parked,release,layover\n";
+
+static NO_LEGS: &[u8] = b"pairing,no,from,to,out,in\n";
+
+static NO_PAIRINGS: &[u8] = b"pairing,need,credit\n";
+
 #[test]
 fn files_together(rt: HostRuntime) -> Result<(), Fail> {
     let alloc = rt.alloc();
-    let one: &[u8] = b"pairing,need,credit\nP1,1,5:00\n";
-    let rested: &[u8] =
-        b"pairing,no,report,parked,release,layover\nP1,1,2026-06-10T08:00Z,2026-06-10T12:00Z,2026-06-10T22:00Z,\nP1,2,2026-06-11T08:00Z,2026-06-11T12:00Z,2026-06-11T12:30Z,\n";
-    let flown: &[u8] =
-        b"pairing,no,from,to,out,in\nP1,2,DUB,ORD,2026-06-11T09:00Z,2026-06-11T11:00Z\nP1,1,DUB,ORD,2026-06-10T09:00Z,2026-06-10T11:00Z\n";
-    let marked: &[u8] = b"\xEF\xBB\xBF\"pairing\",need,credit\r\n\n\"P1\",1,5:00\rP2,9,200:00";
-    let no_header: &[u8] = b"x\n";
-    let no_duties: &[u8] = b"pairing,no,report,parked,release,layover\n";
-    let no_legs: &[u8] = b"pairing,no,from,to,out,in\n";
-    let no_pairings: &[u8] = b"pairing,need,credit\n";
-    let cases: [(&[u8], &[u8], &[u8], Result<usize, FileFault>); 10] = [
-        (PAIRINGS, DUTIES, LEGS, Ok(2)),
-        (marked, DUTIES, LEGS, Ok(2)),
-        (one, rested, flown, Ok(1)),
-        (no_pairings, no_duties, no_legs, Ok(0)),
-        (
-            PAIRINGS,
-            no_header,
-            no_header,
-            fault(FileName::Duties, 1, FileCode::Header),
-        ),
-        (
-            PAIRINGS,
-            no_duties,
-            no_header,
-            fault(FileName::Legs, 1, FileCode::Header),
-        ),
-        (
-            one,
-            no_duties,
-            no_legs,
-            fault(FileName::Pairings, 2, FileCode::Empty),
-        ),
-        (
-            one,
-            no_duties,
-            LEGS,
-            fault(FileName::Legs, 2, FileCode::Unknown),
-        ),
-        (
-            PAIRINGS,
-            DUTIES,
-            no_legs,
-            fault(FileName::Duties, 2, FileCode::Empty),
-        ),
-        (
-            PAIRINGS,
-            DUTIES,
-            flown,
-            fault(FileName::Duties, 3, FileCode::Empty),
-        ),
-    ];
-    for (pairings, duties, legs, want) in cases {
-        assert!(rt; count(alloc, pairings, duties, legs) == want);
-    }
+    assert!(rt; count(alloc, PAIRINGS, DUTIES, LEGS) == Ok(2));
+    assert!(rt; count(alloc, MARKED, DUTIES, LEGS) == Ok(2));
+    assert!(rt; count(alloc, ONE, RESTED, FLOWN) == Ok(1));
+    assert!(rt; count(alloc, NO_PAIRINGS, NO_DUTIES, NO_LEGS) == Ok(0));
+    Ok(())
+}
+
+#[test]
+fn first_file_at_fault(rt: HostRuntime) -> Result<(), Fail> {
+    let alloc = rt.alloc();
+    let read = count(alloc, PAIRINGS, NO_HEADER, NO_HEADER);
+    assert!(rt; read == fault(FileName::Duties, 1, FileCode::Header));
+    let read = count(alloc, PAIRINGS, NO_DUTIES, NO_HEADER);
+    assert!(rt; read == fault(FileName::Legs, 1, FileCode::Header));
+    let read = count(alloc, ONE, NO_DUTIES, NO_LEGS);
+    assert!(rt; read == fault(FileName::Pairings, 2, FileCode::Empty));
+    let read = count(alloc, ONE, NO_DUTIES, LEGS);
+    assert!(rt; read == fault(FileName::Legs, 2, FileCode::Unknown));
+    let read = count(alloc, PAIRINGS, DUTIES, NO_LEGS);
+    assert!(rt; read == fault(FileName::Duties, 2, FileCode::Empty));
+    let read = count(alloc, PAIRINGS, DUTIES, FLOWN);
+    assert!(rt; read == fault(FileName::Duties, 3, FileCode::Empty));
     Ok(())
 }
 

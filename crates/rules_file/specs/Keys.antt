@@ -7,7 +7,8 @@ use Rattle.toml.specs.Data.{Members, no_members, member, get_member}
 
 -- the keys in the order of the format
 abbrev pub keys : List (List ℕ)
-keys = codes "base" ∷ codes "seat" ∷ codes "year" ∷ codes "month" ∷ codes "offset" ∷ codes "days_off" ∷ []
+keys = codes "base" ∷ codes "seat" ∷ codes "year" ∷ codes "month" ∷ codes "offset"
+    ∷ codes "days_off" ∷ []
 
 abbrev pub is_known : List ℕ → Bool
 is_known key = list_any (λ k. bytes_eq k key) keys

@@ -1,5 +1,5 @@
 -- How a text reads as rules, and its first fault.
-use Rattle.std.specs.Prelude.{◌≡◌, ℕ, ◌≤◌, List, length, Bool, codes, nat_le, nat_lt, ℤ, pos, negsuc, ◌&&◌, ◌||◌, ◌==◌, Option, Some, None, option_and_then, Result, Ok, Err, if◌then◌else◌, IsTrue}
+use Rattle.std.specs.Prelude.{◌≡◌, ℕ, ◌≤◌, List, length, Bool, codes, nat_le, nat_lt, ℤ, pos, negsuc, ◌&&◌, ◌||◌, ◌==◌, Option, Some, None, option_and_then, Result, Ok, Err, IfSome, if◌then◌else◌, IsTrue}
 use Rattle.std.specs.List.{list_all}
 use Rattle.std.specs.Str.{is_utf8}
 use Rattle.duty_calendar.specs.Forms.{are_capitals, is_seat}
@@ -21,7 +21,14 @@ pub record Values : Type 0 where
   pub days_off : ℕ
 
 abbrev pub values : Rules → Values
-values r = record { base = r.base; seat = r.seat; year = r.horizon.year; month = r.horizon.month; offset = r.horizon.offset; days_off = r.days_off }
+values r = record {
+  base = r.base;
+  seat = r.seat;
+  year = r.horizon.year;
+  month = r.horizon.month;
+  offset = r.horizon.offset;
+  days_off = r.days_off;
+}
 
 -- the text and the whole number at a key of a table
 abbrev pub text_at : List ℕ → Members → Option (List ℕ)
@@ -75,15 +82,24 @@ values_in table = do
   month ← or_fault (fault.Range (codes "month")) (month_in table)
   offset ← or_fault (fault.Range (codes "offset")) (offset_in table)
   days_off ← or_fault (fault.Range (codes "days_off")) (days_off_in table)
-  Ok (record { base = base; seat = seat; year = pos year; month = month; offset = offset; days_off = days_off })
+  Ok (record {
+    base = base;
+    seat = seat;
+    year = pos year;
+    month = month;
+    offset = offset;
+    days_off = days_off;
+  })
 
 -- a fault at a key, or what comes next where there is none
-abbrev pub no_fault : {A : Type 0} → (List ℕ → RuleFault) → Option (List ℕ) → Result A RuleFault → Result A RuleFault
+abbrev pub no_fault : {A : Type 0} → (List ℕ → RuleFault) → Option (List ℕ) → Result A RuleFault
+    → Result A RuleFault
 no_fault at None next = next
 no_fault at (Some key) next = Err (at key)
 
 unfoldable pub rules_in : Members → Result Values RuleFault
-rules_in table = no_fault fault.MissingKey (missing table) (no_fault fault.UnknownKey (unknown table) (values_in table))
+rules_in table = no_fault fault.MissingKey (missing table)
+    (no_fault fault.UnknownKey (unknown table) (values_in table))
 
 -- the table that a text is
 unfoldable pub table_of : List ℕ → Option Members
@@ -93,15 +109,14 @@ table_of text = if is_utf8 text then parse_document text else None
 unfoldable pub rules_file : List ℕ → Result Values RuleFault
 rules_file text = or_fault fault.NotToml (table_of text) >>= rules_in
 
--- what the reader's fault says, unless memory ran out: reading has the same fault
-abbrev pub Fails : {A : Type 0} → RuleFault → Result A RuleFault → Type 0
-Fails fault.NoMemory read = Unit {0}
-Fails fault.NotToml read = read ≡ Err fault.NotToml
-Fails (fault.MissingKey key) read = read ≡ Err (fault.MissingKey key)
-Fails (fault.UnknownKey key) read = read ≡ Err (fault.UnknownKey key)
-Fails (fault.Range key) read = read ≡ Err (fault.Range key)
+-- the fault that an error tells, unless memory ran out
+abbrev pub told : RuleFault → Option RuleFault
+told fault.NoMemory = None
+told fault.NotToml = Some fault.NotToml
+told (fault.MissingKey key) = Some (fault.MissingKey key)
+told (fault.UnknownKey key) = Some (fault.UnknownKey key)
+told (fault.Range key) = Some (fault.Range key)
 
--- what the reader returned is what reading gives, unless memory ran out
-abbrev pub Gives : Result Rules RuleFault → Result Values RuleFault → Type 0
-Gives (Ok rules) read = read ≡ Ok (values rules)
-Gives (Err e) read = Fails e read
+-- reading has this fault, unless memory ran out
+abbrev pub Fails : {A : Type 0} → RuleFault → Result A RuleFault → Type 0
+Fails e read = IfSome (told e) (λ f. read ≡ Err f)

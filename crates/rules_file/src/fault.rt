@@ -50,7 +50,8 @@ pub enum RuleFault {
     /// The least key in byte order that is none of the format's. Code 3.
     #[error("an unknown key")]
     UnknownKey(Key),
-    /// The first key, in the order of the format, whose value has another kind or is out of range. Code 4.
+    /// The first key, in the order of the format, whose value has another kind or is out of range.
+    /// Code 4.
     #[error("a value of another kind or out of range")]
     Range(Key),
 }

@@ -61,7 +61,8 @@ fn sized(number: i64) -> Option<i16>
 
 /// The whole number at a key, where it lies between two others.
 fn whole_between(table: &Table, key: &str, low: u32, high: u32) -> Option<u32>
-    ensures value { result ≡ option_and_then (between low high) (whole_at key.now (table_view table.now)) }
+    ensures value { result ≡ option_and_then (between low high)
+        (whole_at key.now (table_view table.now)) }
     ensures bound { IfSome result (IsInRange low high) }
 {
     match whole_at(table, key) {
@@ -142,12 +143,13 @@ fn horizon_of(year: u32, month: u32, offset: i16) -> Horizon
     }
 }
 
-/// The rules that the values of a table give, or the first key in order whose value has another kind or range.
+/// The rules that the values of a table give, or the first key in order whose value has another
+/// kind or range.
 pub fn rules_of(table: &Table) -> Result<Rules, &'static str>
     ensures value { MatchResult result
         (λ rules. values_in (table_view table.now) ≡ Ok (values rules))
         (λ key. values_in (table_view table.now) ≡ Err (Range key.now)) }
-    ensures given { IfOk result IsRules }
+    ensures valid { IfOk result IsRules }
 {
     let Some(base) = base_in(table) else {
         return Err("base");

@@ -10,7 +10,8 @@ use toml::{Table, Value};
 
 /// The value at a key.
 pub fn value_at<'a>(table: &'a Table, key: &str) -> Option<&'a Value>
-    ensures value { option_map (λ v. view v.now) result ≡ get_member key.now (table_view table.now) }
+    ensures value { option_map (λ v. view v.now) result
+        ≡ get_member key.now (table_view table.now) }
 {
     table.get(key)
 }
@@ -60,7 +61,8 @@ pub fn first_missing(table: &Table) -> Option<&'static str>
 
 /// The first key of the table that is none of the format's. A table's keys ascend.
 fn first_unknown(table: &Table) -> Option<&String>
-    ensures value { option_copied result ≡ find (λ k. not (is_known (string_bytes k))) (keys table.now) }
+    ensures value { option_copied result
+        ≡ find (λ k. not (is_known (string_bytes k))) (keys table.now) }
     ensures ordered { IsOrdered string_cmp table.now }
 {
     table.keys().find(|key| !is_known(key.as_str()))
@@ -68,7 +70,8 @@ fn first_unknown(table: &Table) -> Option<&String>
 
 /// The least key of the table, in byte order, that is none of the format's.
 pub fn least_unknown(table: &Table) -> Option<&String>
-    ensures value { option_map string_bytes (option_copied result) ≡ unknown (table_view table.now) }
+    ensures value { option_map string_bytes (option_copied result)
+        ≡ unknown (table_view table.now) }
 {
     first_unknown(table)
 }

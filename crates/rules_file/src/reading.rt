@@ -1,7 +1,8 @@
 //! Reading rules.
 ghost use Rattle.std.specs.Prelude.{IfOk};
 ghost use Rattle.toml.specs.View.{table_view};
-ghost use Rattle.rules_file.specs.Rules.{Gives, rules_file, rules_in};
+ghost use Rattle.field_text.specs.Gives.{Gives};
+ghost use Rattle.rules_file.specs.Rules.{told, values, rules_file, rules_in};
 ghost use Rattle.duty_calendar.specs.Checks.{IsRules};
 
 use crate::fault::{Key, RuleFault};
@@ -12,8 +13,8 @@ use std::alloc::Global;
 use toml::Table;
 
 fn of_table(alloc: Global, table: &Table) -> Result<Rules, RuleFault>
-    ensures value { Gives result (rules_in (table_view table.now)) }
-    ensures given { IfOk result IsRules }
+    ensures value { Gives told values result (rules_in (table_view table.now)) }
+    ensures valid { IfOk result IsRules }
 {
     if let Some(key) = first_missing(table) {
         return match Key::new(alloc, key) {
@@ -38,8 +39,8 @@ fn of_table(alloc: Global, table: &Table) -> Result<Rules, RuleFault>
 
 /// The rules that a TOML text gives, or its first fault.
 pub fn read_rules(alloc: Global, text: &[u8]) -> Result<Rules, RuleFault>
-    ensures value { Gives result (rules_file text.now) }
-    ensures given { IfOk result IsRules }
+    ensures value { Gives told values result (rules_file text.now) }
+    ensures valid { IfOk result IsRules }
 {
     let table = match toml::table_from_slice(alloc, text) {
         Ok(table) => table,

@@ -21,11 +21,13 @@ fn put_all(out: &mut List<u8>, pieces: &[&[u8]]) -> Result<(), Memory>
     Ok(())
 }
 
-/// Appends rules as a TOML table, a line for each key; where memory ends, a part of it from its begin.
+/// Appends rules as a TOML table, a line for each key; where memory ends, a part of it from its
+/// begin.
 pub fn put_rules(out: &mut List<u8>, rules: &Rules) -> Result<(), Memory>
     ensures whole { OnOk result (out.new ≡ out.old ++ rules_text (values rules.now)) }
     ensures partly { OnErr result (HasPartly out.old (rules_text (values rules.now)) out.new) }
-    ensures again { IsRules rules.now → rules_file (rules_text (values rules.now)) ≡ Ok (values rules.now) }
+    ensures again { IsRules rules.now → rules_file (rules_text (values rules.now))
+        ≡ Ok (values rules.now) }
 {
     let base = rules.base.bytes();
     let (mut year, mut month) = (Buffer::new(), Buffer::new());

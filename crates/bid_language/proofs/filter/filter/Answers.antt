@@ -3,7 +3,7 @@ use Rattle.bid_language.proofs.AtomSteps.{atoms-more, atoms-last, reads-none, re
 use Rattle.bid_language.proofs.filter.filter.Goals as goal
 
 pub returns-in-Err : goal.returns-in-Err
-returns-in-Err c = record { reads = reads-fault c.args.pairings.now (8 - c.loop-n.n) (7 - c.loop-n.n) c.loop-n.atoms c.args.words.now c.loop-n.words _ _ (omega arith) c.loop-n.invariant c.in-Err.ensures.reads }
+returns-in-Err c = record { reads = reads-fault c.args.pairings.now (8 - c.loop-n.n) (7 - c.loop-n.n) c.loop-n.atoms c.args.words.now c.loop-n.words c.loop-n.words _ (omega arith) c.loop-n.invariant c.in-Err.ensures.reads }
 
 pub returns : goal.returns
 returns c = record { reads = reads-none c.args.pairings.now (8 - c.loop-n.n) c.loop-n.atoms c.args.words.now c.loop-n.words _ _ (omega arith) c.loop-n.invariant c.too_many.ensures.reads }

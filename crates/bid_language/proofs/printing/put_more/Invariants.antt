@@ -1,9 +1,9 @@
 use Rattle.std.proofs.Common.{◌≡◌, ◌++◌, take, true}
-use Rattle.bid_language.specs.Spelling.{more_text, is_spelt_filter}
+use Rattle.bid_language.specs.Spelling.{more_text, is_coded_filter}
 use Rattle.bid_language.proofs.printing.put_more.Given as goal
 
 abbrev pub invariant-loop-atom : goal.invariant-loop-atom
 invariant-loop-atom l = record {
   whole : l.out ≡ l.fn.out ++ more_text l.pairings (take l.atom-index l.atoms);
-  spelt : is_spelt_filter l.pairings (take l.atom-index l.atoms) ≡ true;
+  coded : is_coded_filter (take l.atom-index l.atoms) ≡ true;
 }

@@ -6,8 +6,8 @@ use Rattle.bid_language.proofs.reading.read_lines.Goals as goal
 
 pub returns-in-Err : goal.returns-in-Err
 returns-in-Err c = record {
-  gives = lines-fault c.args.base.now c.loop-rest.number (read_of c.loop-rest.sheet) c.loop-rest.rest.now c.next_line.result.0.now c.next_line.result.1.now c.in-Err.fault _
-      c.next_line.ensures.lines c.loop-rest.invariant.same c.in-Err.ensures.gives;
+  value = lines-fault c.args.base.now c.loop-rest.number (read_of c.loop-rest.sheet) c.loop-rest.rest.now c.next_line.result.0.now c.next_line.result.1.now c.in-Err.fault _
+      c.next_line.ensures.lines c.loop-rest.invariant.same c.in-Err.ensures.value;
 }
 
 pub loop-rest-preserved : goal.loop-rest-preserved
@@ -16,8 +16,8 @@ loop-rest-preserved c = record {
   room = omega arith;
   members = omega arith;
   same = lines-next c.args.base.now c.loop-rest.number (read_of c.loop-rest.sheet) _ c.loop-rest.rest.now c.next_line.result.0.now c.next_line.result.1.now c.in-Ok.entry
-      c.next_line.ensures.lines c.in-Ok.ensures.gives c.in_ok-apply.ensures.ok ∙ c.loop-rest.invariant.same;
+      c.next_line.ensures.lines c.in-Ok.ensures.value c.in_ok-apply.ensures.ok ∙ c.loop-rest.invariant.same;
 }
 
 pub returns : goal.returns
-returns c = record { gives = sym c.loop-rest.invariant.same ∙ lines-end c.args.base.now c.loop-rest.number (read_of c.loop-rest.sheet) c.loop-rest.rest.now (grind (arith, nat_tests, c.loop-rest-test.ensures)) }
+returns c = record { value = sym c.loop-rest.invariant.same ∙ lines-end c.args.base.now c.loop-rest.number (read_of c.loop-rest.sheet) c.loop-rest.rest.now (grind (arith, nat_tests, c.loop-rest-test.ensures)) }

@@ -1,7 +1,19 @@
 use Rattle.bid_language.proofs.BidsAgain.{bids-again}
 use Rattle.bid_language.proofs.DaysAgain.{days-again}
+use Rattle.bid_language.proofs.Spelt.{problem-spelt}
 use Rattle.bid_language.proofs.text.print_bids.Goals as goal
 
 pub returns-clause-again : goal.returns-clause-again
 returns-clause-again c =
-    bids-again c.args.problem.now.base c.args.problem.now.bids c.args.problem.now.valid (days-again c.args.problem.now.base.rules.horizon) c.in_ok-put_problem.ensures.spelt
+    bids-again c.args.problem.now.base c.args.problem.now.bids c.args.problem.now.valid (days-again c.args.problem.now.base.rules.horizon)
+    (problem-spelt c.args.problem.now.base c.args.problem.now.bids c.args.problem.now.valid c.in_ok-put_problem.ensures.coded)
+
+pub returns-clause-coded : goal.returns-clause-coded
+returns-clause-coded c = λ coded.
+    bids-again c.args.problem.now.base c.args.problem.now.bids c.args.problem.now.valid (days-again c.args.problem.now.base.rules.horizon)
+    (problem-spelt c.args.problem.now.base c.args.problem.now.bids c.args.problem.now.valid coded)
+
+pub returns-in_err-put_problem-clause-coded : goal.returns-in_err-put_problem-clause-coded
+returns-in_err-put_problem-clause-coded c = λ coded.
+    bids-again c.args.problem.now.base c.args.problem.now.bids c.args.problem.now.valid (days-again c.args.problem.now.base.rules.horizon)
+    (problem-spelt c.args.problem.now.base c.args.problem.now.bids c.args.problem.now.valid coded)

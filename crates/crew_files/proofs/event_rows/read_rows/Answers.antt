@@ -11,12 +11,12 @@ returns-clause-ok c =
     let none = rw c.in_default.is at c.in_ok-record.ensures.next in
     sym c.rows.invariant.same ∙ rows-end (file_name c.args.part) (event_row c.args.horizon.now c.args.part) c.rows.row c.rows.crew c.rows.records none
 
-pub returns-in-Err-clause-err : goal.returns-in-Err-clause-err
-returns-in-Err-clause-err c =
+pub returns-in-Err-clause-fault : goal.returns-in-Err-clause-fault
+returns-in-Err-clause-fault c =
     let some = rw c.in-Some.is at c.in_ok-record.ensures.next in
     fails-at c.in-Err.code c.at_row.result _ c.at_row.ensures.code (λ n.
     sym c.rows.invariant.same
-    ∙ rows-fault (file_name c.args.part) (event_row c.args.horizon.now c.args.part) c.rows.row c.rows.crew c.rows.records c.next.new.records (fields_of c.in-Some.record) c.in-Err.code some (c.in-Err.ensures.err n)
+    ∙ rows-fault (file_name c.args.part) (event_row c.args.horizon.now c.args.part) c.rows.row c.rows.crew c.rows.records c.next.new.records (fields_of c.in-Some.record) c.in-Err.code some (c.in-Err.ensures.fault n)
     ∙ ap Err (sym (c.at_row.ensures.value n ∙ ap (λ (f : FileName). record { file = f; row = c.rows.row; code = c.in-Err.code }) c.file_name-file.ensures.value)))
 
 pub rows-preserved : goal.rows-preserved

@@ -10,8 +10,8 @@ loop-i-preserved c = λ k e.
     value-step c.args.horizon.now (gathered c.loop-i.fault c.loop-i.flights) (gathered c.gather.new.fault c.gather.new.flights) c.flight_value-found.result k c.loop-i.i c.args.text.now c.flight_value-found.ensures.value c.in_ok-gather.ensures.ok
     ∙ c.loop-i.invariant (k + 1) (omega arith)
 
-pub returns-in-Some-clause-err : goal.returns-in-Some-clause-err
-returns-in-Some-clause-err c = λ n.
+pub returns-in-Some-clause-fault : goal.returns-in-Some-clause-fault
+returns-in-Some-clause-fault c = λ n.
     let all = value-end c.args.horizon.now (gathered c.loop-i.fault c.loop-i.flights) _ (drop (36 * c.loop-i.i) c.args.text.now) (c.loop-i.invariant 0 (omega arith)) in
     sym (ap (in_column 6) (ap (λ (f : Option FieldFault). gathered f c.loop-i.flights) (sym c.in-Some.is) ∙ all))
 

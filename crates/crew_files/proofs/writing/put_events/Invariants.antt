@@ -1,5 +1,6 @@
 use Rattle.std.proofs.Common.{◌≡◌, ◌++◌, drop, flat_map}
-use Rattle.crew_files.specs.Texts.{line, event_fields}
+use Rattle.crew_files.specs.Texts.{event_fields}
+use Rattle.field_text.specs.Rows.{line}
 use Rattle.crew_files.proofs.writing.put_events.Given as goal
 
 abbrev pub invariant-loop-event : goal.invariant-loop-event

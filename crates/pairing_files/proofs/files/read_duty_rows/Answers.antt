@@ -15,7 +15,7 @@ pub returns-in-Err-clause-rows : goal.returns-in-Err-clause-rows
 returns-in-Err-clause-rows c =
     let some = rw c.in-Some.is at c.in_ok-raw.ensures.next in
     row-fails Duties (duty_row c.args.horizon.now) c.rows.row (draft_of c.rows.tables) c.rows.records c.next.new.records (fields_of c.in-Some.raw) c.in-Err.code c.at_row.result _
-    c.rows.invariant.same some c.in-Err.ensures.row c.at_row.ensures.code c.at_row.ensures.value
+    c.rows.invariant.same some c.in-Err.ensures.fault c.at_row.ensures.code c.at_row.ensures.value
 
 pub rows-preserved : goal.rows-preserved
 rows-preserved c =
@@ -23,5 +23,5 @@ rows-preserved c =
     record {
       room = omega (arith, ap length some);
       named = c.in_default-add_duty_row.ensures.named;
-      same = sym (rows-next Duties (duty_row c.args.horizon.now) c.rows.row (draft_of c.rows.tables) c.rows.records c.next.new.records (fields_of c.in-Some.raw) (draft_of c.add_duty_row.new.tables) some c.in_default-add_duty_row.ensures.row) ∙ c.rows.invariant.same;
+      same = sym (rows-next Duties (duty_row c.args.horizon.now) c.rows.row (draft_of c.rows.tables) c.rows.records c.next.new.records (fields_of c.in-Some.raw) (draft_of c.add_duty_row.new.tables) some c.in_default-add_duty_row.ensures.ok) ∙ c.rows.invariant.same;
     }

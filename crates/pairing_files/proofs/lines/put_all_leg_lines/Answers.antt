@@ -6,7 +6,7 @@ use Rattle.pairing_files.proofs.lines.put_all_leg_lines.Goals as goal
 
 pub loop-pairing-preserved : goal.loop-pairing-preserved
 loop-pairing-preserved c =
-    let text : c.put_duties_leg_lines.new.out ≡ c.loop-pairing.out ++ lines (duties_leg_rows c.args.horizon.now c.pairing-item.result.name 1 c.pairing-item.result.duties) = c.in_ok-put_duties_leg_lines.ensures.text
+    let text : c.put_duties_leg_lines.new.out ≡ c.loop-pairing.out ++ lines (duties_leg_rows c.args.horizon.now c.pairing-item.result.name 1 c.pairing-item.result.duties) = c.in_ok-put_duties_leg_lines.ensures.whole
     ∙ ap (λ (n : List ℕ). c.loop-pairing.out ++ lines (duties_leg_rows c.args.horizon.now n 1 c.as_slice.result.now)) c.bytes.ensures.value
     ∙ ap (λ (ds : List Duty). c.loop-pairing.out ++ lines (duties_leg_rows c.args.horizon.now c.pairing-item.result.name 1 ds)) c.as_slice.ensures in
     write-block c.loop-pairing.out c.put_duties_leg_lines.new.out c.args.out.now (duties_leg_rows c.args.horizon.now c.pairing-item.result.name 1 c.pairing-item.result.duties) (all_leg_rows c.args.horizon.now (drop c.loop-pairing.pairing-index c.args.list.now)) (all_leg_rows c.args.horizon.now (drop (c.loop-pairing.pairing-index + 1) c.args.list.now)) (all_leg_rows c.args.horizon.now c.args.list.now)
@@ -14,5 +14,5 @@ loop-pairing-preserved c =
 
 pub returns : goal.returns
 returns c = record {
-  text = write-end c.loop-pairing.out c.args.out.now (all_leg_rows c.args.horizon.now (drop c.loop-pairing.pairing-index c.args.list.now)) (all_leg_rows c.args.horizon.now c.args.list.now) (legs-done c.args.horizon.now c.args.list.now c.loop-pairing.pairing-index c.loop-pairing-test.false) c.loop-pairing.invariant;
+  whole = write-end c.loop-pairing.out c.args.out.now (all_leg_rows c.args.horizon.now (drop c.loop-pairing.pairing-index c.args.list.now)) (all_leg_rows c.args.horizon.now c.args.list.now) (legs-done c.args.horizon.now c.args.list.now c.loop-pairing.pairing-index c.loop-pairing-test.false) c.loop-pairing.invariant;
 }
