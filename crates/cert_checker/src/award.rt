@@ -57,9 +57,10 @@ pub fn judge(
     )
 }
 
-/// The scores of the roster where it is complete and each place has its proof, else the first test
-/// of these that fails.
-fn judge_places(
+/// The lines, crews and place proofs of an award alone, with no word on its denied bids: the scores
+/// of the roster where it is complete and each place has its proof, else the first test that fails,
+/// in the order of `judge`.
+pub fn judge_places(
     alloc: Global,
     problem: &Problem,
     roster: &Roster,
@@ -70,9 +71,11 @@ fn judge_places(
     requires small { HaveSmallWeights place_proofs.now }
     requires countable { IsCountable place_proofs.now }
     ensures value { IfOk result (λ scores. scores ≡ scores_of problem.now roster.now) }
-    ensures best { OnOk result (IsBest problem.now roster.now place_proofs.now) }
-    ensures fault { IfErr result (PlacesFail problem.now roster.now place_proofs.now) }
+    ensures accepted { OnOk result (IsBest problem.now roster.now place_proofs.now) }
+    ensures first { IfErr result (PlacesFail problem.now roster.now place_proofs.now) }
     ensures refused { Excludes result (IsBest problem.now roster.now place_proofs.now) }
+    ensures greatest { OnOk result (IsGreatest problem.now roster.now) }
+    ensures sound { (goal : Aim) (node : Sequence Decision) (items : Sequence Step) → Closes problem.now goal node items → IsHopeless problem.now goal node }
 {
     whole(alloc, problem, roster)?;
     let proofs = place_proofs.as_slice();

@@ -16,6 +16,6 @@ mod walk;
 mod weights;
 mod witness;
 
-pub use award::{judge, judge_none};
+pub use award::{judge, judge_none, judge_places};
 pub use goals::scores_of;
 pub use refusal::{ItemFault, No};

@@ -13,11 +13,11 @@ judge_denials-requires-clause-scores c = c.as_slice.ensures ∙ c.in_ok-scores.e
 
 pub returns-clause-accepted : goal.returns-clause-accepted
 returns-clause-accepted c =
-    on_ok_weaker c.judge_denials.result (λ fit. record { best = c.in_ok-scores.ensures.best; denials = fit }) c.judge_denials.ensures.fit
+    on_ok_weaker c.judge_denials.result (λ fit. record { best = c.in_ok-scores.ensures.accepted; denials = fit }) c.judge_denials.ensures.fit
 
 pub returns-clause-first : goal.returns-clause-first
 returns-clause-first c =
-    IfErr-weaker c.judge_denials.result _ _ (λ why h. inr (c.in_ok-scores.ensures.best, h)) c.judge_denials.ensures.fault
+    IfErr-weaker c.judge_denials.result _ _ (λ why h. inr (c.in_ok-scores.ensures.accepted, h)) c.judge_denials.ensures.fault
 
 pub returns-clause-refused : goal.returns-clause-refused
 returns-clause-refused c =
@@ -26,12 +26,12 @@ returns-clause-refused c =
 pub returns-clause-greatest : goal.returns-clause-greatest
 returns-clause-greatest c =
     on_ok_weaker c.judge_denials.result
-    (λ fit. best-greatest c.args.problem.now c.args.roster.now c.args.awarded.now.proofs c.in_ok-scores.ensures.best) c.judge_denials.ensures.fit
+    (λ fit. best-greatest c.args.problem.now c.args.roster.now c.args.awarded.now.proofs c.in_ok-scores.ensures.accepted) c.judge_denials.ensures.fit
 
 pub returns-clause-answered : goal.returns-clause-answered
 returns-clause-answered c =
     on_ok_weaker c.judge_denials.result
-    (λ fit. awarded_answered c.args.problem.now c.args.roster.now c.args.reasons.now c.args.awarded.now (record { best = c.in_ok-scores.ensures.best; denials = fit }))
+    (λ fit. awarded_answered c.args.problem.now c.args.roster.now c.args.reasons.now c.args.awarded.now (record { best = c.in_ok-scores.ensures.accepted; denials = fit }))
     c.judge_denials.ensures.fit
 
 pub returns-clause-sound : goal.returns-clause-sound
