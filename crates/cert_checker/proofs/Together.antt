@@ -21,7 +21,7 @@ use Rattle.cert_checker.specs.declared.refusal.ItemFault.TheVariants as fault
 use Rattle.cert_checker.specs.declared.refusal.StepFault.{StepFault}
 use Rattle.cert_checker.specs.declared.refusal.StepFault.TheVariants as step
 use Rattle.cert_checker.specs.Faults.{AreWide, IsFirstLineless, IsHeavyEnough, WeightsFails, IsStepFault}
-use Rattle.cert_checker.specs.Bests.{IsWithin, IsNothingFault, IsLinelessFault, WeighTogether, needed_below}
+use Rattle.cert_checker.specs.Bests.{IsWithin, IsNothingFault, IsLinelessFault, WeighTogether}
 use Rattle.cert_checker.proofs.Shapes.{has_line}
 
 -- an element of a list that got one more is an old one, or the new one
@@ -185,6 +185,11 @@ bests_unique problem goal node weights lenses xs ys ex ey bx by =
 sum_more : (f : ℕ → ℤ) (k n : ℕ) → n ≡ suc k → sum_below f n ≡ sum_below f k +ℤ f k
 unfolding sum_below
 sum_more f k n e = ap (λ (i : ℕ). sum_below f i) e
+
+-- what the crews that the first pairings need weigh together
+abbrev pub needed_below : Problem → List ℤ → ℕ → ℤ
+needed_below problem weights count =
+    sum_below (λ p. pos (need_of problem p) *ℤ weight_at weights p) count
 
 pub needed_more : (problem : Problem) (weights : List ℤ) (k : ℕ) (x : Pairing) (sum one new : ℤ)
     → sum ≡ needed_below problem weights k → slice_get problem.base.pairings k ≡ Some x

@@ -11,13 +11,25 @@ use Rattle.roster_model.proofs.Soundness.{closes_sound}
 use Rattle.cert_checker.specs.declared.refusal.No.{No}
 use Rattle.cert_checker.specs.declared.refusal.No.TheVariants as no
 use Rattle.cert_checker.specs.Stops.{Stops}
-use Rattle.cert_checker.specs.Awards.{AreClosed, IsFirstOfPlaces, IsFirstNo, NamesFault}
+use Rattle.cert_checker.specs.Awards.{AreClosed, IsFirstOfPlaces, IsIncomplete, PlacesFail, NamesFault}
 use Rattle.cert_checker.proofs.Stopped.{stopped}
+
+-- a fault of the roster is a fault of the award
+pub incomplete_fails : (problem : Problem) (roster : List (List ℕ)) (proofs : List (List Item)) (why : No)
+    → IsIncomplete problem roster why → PlacesFail problem roster proofs why
+incomplete_fails problem roster proofs no.NoMemory h = tt
+incomplete_fails problem roster proofs (no.Member m why) h = h
+incomplete_fails problem roster proofs (no.Cover p count) h = h
+incomplete_fails problem roster proofs (no.Amount found) h = absurd h
+incomplete_fails problem roster proofs (no.Item k at why) h = absurd h
+incomplete_fails problem roster proofs (no.Left k) h = absurd h
+incomplete_fails problem roster proofs (no.Reason m b) h = absurd h
+incomplete_fails problem roster proofs (no.Shown m b) h = absurd h
 
 -- a fault of the places' proofs is
 pub first_of_places : (problem : Problem) (roster : List (List ℕ)) (proofs : List (List Item)) (why : No)
     → IsComplete problem roster → length proofs ≡ length problem.base.members
-    → IsFirstOfPlaces problem (scores_of problem roster) proofs why → IsFirstNo problem roster proofs why
+    → IsFirstOfPlaces problem (scores_of problem roster) proofs why → PlacesFail problem roster proofs why
 first_of_places problem roster proofs no.NoMemory complete amount h = tt
 first_of_places problem roster proofs (no.Member m why) complete amount h = absurd h
 first_of_places problem roster proofs (no.Cover p count) complete amount h = absurd h
@@ -69,7 +81,7 @@ moved problem roster proofs slice scores why e s h =
 
 pub first_of : (problem : Problem) (roster : List (List ℕ)) (proofs slice : List (List Item)) (scores : List ℕ) (why : No)
     → IsComplete problem roster → scores ≡ scores_of problem roster → slice ≡ proofs → length slice ≡ length problem.base.members
-    → IsFirstOfPlaces problem scores slice why → IsFirstNo problem roster proofs why
+    → IsFirstOfPlaces problem scores slice why → PlacesFail problem roster proofs why
 first_of problem roster proofs slice scores why complete e s amount h =
     first_of_places problem roster proofs why complete (sym (ap (λ (xs : List (List Item)). length xs) s) ∙ amount)
     (moved problem roster proofs slice scores why e s h)

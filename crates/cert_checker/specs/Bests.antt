@@ -1,12 +1,11 @@
 -- Best lines, and what they weigh together.
-use Rattle.std.specs.Prelude.{◌≡◌, ℕ, ℤ, pos, neg_ℤ, ◌*ℤ◌, ◌≤ℤ◌, List, length}
+use Rattle.std.specs.Prelude.{◌≡◌, ℕ, ℤ, pos, neg_ℤ, ◌≤ℤ◌, List, length}
 use Rattle.roster_model.specs.declared.problem.Problem.{Problem}
 use Rattle.roster_model.specs.declared.goal.Goal.{Goal}
 use Rattle.roster_model.specs.declared.node.Decision.{Decision}
 use Rattle.roster_model.specs.declared.proof.Lens.{Lens}
-use Rattle.roster_model.specs.Rosters.{need_of}
 use Rattle.roster_model.specs.Lenses.{HasNoLine, AreBestWeights}
-use Rattle.roster_model.specs.Weights.{weight_at, sum_below, total}
+use Rattle.roster_model.specs.Weights.{total}
 use Rattle.line_lens.specs.LensFaults.{IsLensFault}
 use Rattle.cert_checker.specs.declared.refusal.ItemFault.{ItemFault}
 use Rattle.cert_checker.specs.declared.refusal.ItemFault.TheVariants as fault
@@ -22,6 +21,10 @@ pub record WeighTogether (problem : Problem) (goal : Goal) (node : List Decision
   pub each : length bests ≡ count
   pub best : AreBestWeights problem goal node weights lenses bests
   pub sum_is : sum ≡ total bests
+
+-- the best lines, one for each lens, weigh so much together
+abbrev pub LinesWeigh : Problem → Goal → List Decision → List ℤ → List Lens → ℤ → Type 0
+LinesWeigh problem goal node weights lenses = WeighTogether problem goal node weights lenses (length lenses)
 
 -- the lens of the member has not its shape
 abbrev pub IsShapeFault : Problem → ℕ → Lens → ItemFault → Type 0
@@ -61,8 +64,3 @@ IsLinelessFault problem goal node lenses (fault.Line k) = ⊥
 IsLinelessFault problem goal node lenses (fault.Nothing k) = IsFirstLineless problem goal node lenses k
 IsLinelessFault problem goal node lenses (fault.Sum lines needs) = ⊥
 IsLinelessFault problem goal node lenses (fault.Width w l) = ⊥
-
--- what the crews that the first pairings need weigh together
-abbrev pub needed_below : Problem → List ℤ → ℕ → ℤ
-needed_below problem weights count =
-    sum_below (λ p. pos (need_of problem p) *ℤ weight_at weights p) count

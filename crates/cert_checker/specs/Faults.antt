@@ -1,5 +1,5 @@
 -- What is wrong with an item at a node. Each fault says that the tests before it are passed.
-use Rattle.std.specs.Prelude.{◌≡◌, ◌≢◌, ℕ, ◌<◌, ◌≤◌, ℤ, ◌≤ℤ◌, ◌⊎◌, true, false, List, length, slice_get, Some}
+use Rattle.std.specs.Prelude.{◌≡◌, ◌≢◌, ℕ, ◌<◌, ◌≤◌, ℤ, ◌≤ℤ◌, ◌⊎◌, true, false, List, length, slice_get, Option, Some, MatchOption}
 use Rattle.std.specs.Option.{ForSome}
 use Rattle.roster_model.specs.declared.problem.Problem.{Problem}
 use Rattle.roster_model.specs.declared.goal.Goal.{Goal}
@@ -40,6 +40,11 @@ pub record IsFirstUndecided (problem : Problem) (node : List Decision) (member p
   pub undecided : is_decided node member pairing ≡ false
   pub before : (p : ℕ) → p < pairing → is_decided node member p ≡ true
 
+-- the first such pairing, if there is one
+abbrev pub FindsUndecided : Problem → List Decision → ℕ → Option ℕ → Type 0
+FindsUndecided problem node member found =
+    MatchOption found (IsDecidedLine problem node member) (IsFirstUndecided problem node member)
+
 -- the line is legal and meets the goal
 pub record Serves (problem : Problem) (goal : Goal) (member : ℕ) (line : List ℕ) : Type 0 where
   pub legal : IsLegal problem member line
@@ -78,6 +83,11 @@ pub record IsFirstMisshapen (problem : Problem) (lenses : List Lens) (member : �
   pub here : slice_get lenses member ≡ Some lens
   pub fault : IsLensFault problem member lens why
   pub before : (m : ℕ) (other : Lens) → m < member → slice_get lenses m ≡ Some other → IsLens problem m other
+
+-- the first such member and the lens's fault, if there is one
+abbrev pub FindsMisshapen : Problem → List Lens → Option (ℕ × LensFault) → Type 0
+FindsMisshapen problem lenses found =
+    MatchOption found (AreLenses problem lenses) (λ f. IsFirstMisshapen problem lenses f.0 f.1)
 
 -- the first member of whom no line passes the lens
 pub record IsFirstLineless (problem : Problem) (goal : Goal) (node : List Decision) (lenses : List Lens) (member : ℕ) : Type 0 where

@@ -1,14 +1,20 @@
 -- Why items do not close a goal at the node without decisions.
-use Rattle.std.specs.Prelude.{◌≡◌, ℕ, ◌<◌, ◌⊎◌, List, [], ◌∷◌, length, take, slice_get, Some}
+use Rattle.std.specs.Prelude.{◌≡◌, ℕ, Bool, ◌<◌, ◌⊎◌, List, [], ◌∷◌, length, take, slice_get, Some}
 use Rattle.roster_model.specs.declared.problem.Problem.{Problem}
 use Rattle.roster_model.specs.declared.goal.Goal.{Goal}
 use Rattle.roster_model.specs.declared.node.Decision.{Decision}
 use Rattle.roster_model.specs.declared.proof.Item.{Item}
+use Rattle.roster_model.specs.Decided.{nodes_behind, open_nodes}
 use Rattle.roster_model.specs.Walk.{Leads}
 use Rattle.cert_checker.specs.declared.refusal.No.{No}
 use Rattle.cert_checker.specs.declared.refusal.No.TheVariants.{NoMemory, Member, Cover, Amount, Left, Reason, Shown, Item as AtItem}
 use Rattle.cert_checker.specs.declared.refusal.ItemFault.{ItemFault}
 use Rattle.cert_checker.specs.Faults.{Fails}
+
+-- the item is accepted at the node, and leads to this one, if a node is open behind it
+abbrev pub GoesOver : Problem → Goal → List Decision → Item → List Decision → Bool → Type 0
+GoesOver problem goal node item after is_open =
+    Leads problem goal (node ∷ nodes_behind node) (item ∷ []) (open_nodes is_open after)
 
 -- the items before this one are accepted, a node is still open, and the item has a fault there
 pub record StopsAt (problem : Problem) (goal : Goal) (items : List Item) (at : ℕ) (why : ItemFault) : Type 0 where

@@ -1,25 +1,30 @@
 //! The judge of an award.
-ghost use Rattle.std.specs.Prelude.{◌≡◌, ◌+◌, ◌^◌, ◌<◌, [], List as Sequence, length, All, OnOk, IfErr};
+ghost use Rattle.std.specs.Prelude.{◌≡◌, ◌+◌, ◌^◌, ◌<◌, [], List as Sequence, length, All, OnOk, IfOk, IfErr};
 ghost use Rattle.roster_model.specs.declared.goal.Goal.{Goal as Aim};
 ghost use Rattle.roster_model.specs.declared.node.Decision.{Decision};
 ghost use Rattle.roster_model.specs.declared.proof.Item.{Item as Step};
 ghost use Rattle.roster_model.specs.Closing.{Closes, IsHopeless};
-ghost use Rattle.roster_model.specs.Rosters.{IsComplete};
+ghost use Rattle.roster_model.specs.Rosters.{IsComplete, scores_of};
 ghost use Rattle.roster_model.specs.Awards.{above_at, no_goal, HasNoRoster, IsBest, IsGreatest};
-ghost use Rattle.cert_checker.specs.Given.{AreInRange, HasSmallWeights, HaveSmallWeights, IsCountable, IsCountableProof};
+ghost use Rattle.roster_model.specs.Denials.{DenialsFit, IsAwarded};
+ghost use Rattle.cert_checker.specs.Given.{AreCountableParts, AreInRange, HasSmallProof, HasSmallWeights, HaveSmallWeights, IsCountable, IsCountableProof, NameBids};
 ghost use Rattle.cert_checker.specs.Stops.{Stops};
-ghost use Rattle.cert_checker.specs.Awards.{AreClosed, IsFirstNo, IsFirstOfPlaces, NamesFault};
+ghost use Rattle.cert_checker.specs.Awards.{AreAllClosed, AreAnswered, DenialsFail, Excludes, IsFirstNo, IsFirstOfPlaces, IsIncomplete, NamesFault, PlacesFail};
 
 use crate::goals::{goal_above, scores_of};
+use crate::reasons::first_mislisted;
 use crate::refusal::No;
+use crate::shown::first_unshown;
 use crate::walk::first_fault;
 use duty_calendar::List;
 use line_legality::{RosterFault, complete};
-use roster_model::{Awarded, Goal, Item, Problem, Proof, Reasons, Roster};
+use roster_model::{Awarded, Goal, Item, Problem, Proof, Reasons, Roster, Shown};
 use std::alloc::Global;
 
-/// Whether the award is accepted, else the first test that fails: the lines in order, the crews of the pairings in
-/// order, the number of place proofs, then the place proofs in order.
+/// Whether the award is accepted, else the first test that fails: the lines in order, the crews of
+/// the pairings in order, the number of place proofs, the place proofs in order; then the number
+/// of parts that are shown, the reasons as a list, and each reason in order: its parts, its proof,
+/// its roster. Search k is that of place k, and with n members search n + i is that of reason i.
 pub fn judge(
     alloc: Global,
     problem: &Problem,
@@ -29,27 +34,93 @@ pub fn judge(
 ) -> Result<(), No>
     requires lines { length roster.now ≡ length problem.now.base.members }
     requires pairings { AreInRange problem.now roster.now }
-    requires no_reasons { reasons.now ≡ [] }
-    requires none_shown { awarded.now.shown ≡ [] }
+    requires bids { NameBids problem.now reasons.now }
     requires small { HaveSmallWeights awarded.now.proofs }
     requires countable { IsCountable awarded.now.proofs }
-    ensures accepted { OnOk result (IsBest problem.now roster.now awarded.now.proofs) }
-    ensures first { IfErr result (IsFirstNo problem.now roster.now awarded.now.proofs) }
-    ensures refused { IfErr result (λ why. NamesFault why → IsBest problem.now roster.now awarded.now.proofs → ⊥) }
+    requires small_shown { All HasSmallProof awarded.now.shown }
+    requires countable_shown { AreCountableParts awarded.now.shown }
+    ensures accepted { OnOk result (IsAwarded problem.now roster.now reasons.now awarded.now) }
+    ensures first { IfErr result (IsFirstNo problem.now roster.now reasons.now awarded.now) }
+    ensures refused { Excludes result (IsAwarded problem.now roster.now reasons.now awarded.now) }
+    ensures greatest { OnOk result (IsGreatest problem.now roster.now) }
+    ensures answered { OnOk result (AreAnswered problem.now roster.now reasons.now awarded.now) }
+    ensures sound { (goal : Aim) (node : Sequence Decision) (items : Sequence Step) → Closes problem.now goal node items → IsHopeless problem.now goal node }
+{
+    let scores = judge_places(alloc, problem, roster, &awarded.proofs)?;
+    judge_denials(
+        alloc,
+        problem,
+        roster,
+        scores.as_slice(),
+        reasons,
+        &awarded.shown,
+    )
+}
+
+/// The lines, crews and place proofs of an award alone, with no word on its denied bids: the scores
+/// of the roster where it is complete and each place has its proof, else the first test that fails,
+/// in the order of `judge`.
+pub fn judge_places(
+    alloc: Global,
+    problem: &Problem,
+    roster: &Roster,
+    place_proofs: &List<Proof>,
+) -> Result<List<u32>, No>
+    requires lines { length roster.now ≡ length problem.now.base.members }
+    requires pairings { AreInRange problem.now roster.now }
+    requires small { HaveSmallWeights place_proofs.now }
+    requires countable { IsCountable place_proofs.now }
+    ensures value { IfOk result (λ scores. scores ≡ scores_of problem.now roster.now) }
+    ensures accepted { OnOk result (IsBest problem.now roster.now place_proofs.now) }
+    ensures first { IfErr result (PlacesFail problem.now roster.now place_proofs.now) }
+    ensures refused { Excludes result (IsBest problem.now roster.now place_proofs.now) }
     ensures greatest { OnOk result (IsGreatest problem.now roster.now) }
     ensures sound { (goal : Aim) (node : Sequence Decision) (items : Sequence Step) → Closes problem.now goal node items → IsHopeless problem.now goal node }
 {
     whole(alloc, problem, roster)?;
-    let proofs = awarded.proofs.as_slice();
+    let proofs = place_proofs.as_slice();
     let found = proofs.len();
     if found != problem.base.members.len() {
         return Err(No::Amount(found as u32));
     }
     let scores = scores_of(alloc, problem, roster)?;
-    places(alloc, problem, scores.as_slice(), proofs)
+    places(alloc, problem, scores.as_slice(), proofs)?;
+    Ok(scores)
 }
 
-/// Whether the proof shows that there is no complete roster, else what is wrong with it. Its search is number 0.
+/// Whether the denials fit, else the first test of them that fails.
+fn judge_denials(
+    alloc: Global,
+    problem: &Problem,
+    roster: &Roster,
+    scores: &[u32],
+    reasons: &Reasons,
+    shown: &List<Shown>,
+) -> Result<(), No>
+    requires lines { length roster.now ≡ length problem.now.base.members }
+    requires pairings { AreInRange problem.now roster.now }
+    requires scores { scores.now ≡ scores_of problem.now roster.now }
+    requires bids { NameBids problem.now reasons.now }
+    requires small { All HasSmallProof shown.now }
+    requires countable { AreCountableParts shown.now }
+    ensures fit { OnOk result (DenialsFit problem.now roster.now reasons.now shown.now) }
+    ensures fault { IfErr result (DenialsFail problem.now roster.now reasons.now shown.now) }
+    ensures refused { Excludes result (DenialsFit problem.now roster.now reasons.now shown.now) }
+{
+    let listed = reasons.as_slice();
+    let parts = shown.as_slice();
+    let found = parts.len();
+    if found != listed.len() {
+        return Err(No::Amount(found as u32));
+    }
+    if let Some(bid) = first_mislisted(problem, roster, listed) {
+        return Err(No::Reason(bid.member, bid.bid));
+    }
+    first_unshown(alloc, problem, scores, listed, parts)
+}
+
+/// Whether the proof shows that there is no complete roster, else what is wrong with it. Its search
+/// is number 0.
 pub fn judge_none(alloc: Global, problem: &Problem, proof: &Proof) -> Result<(), No>
     requires small { All HasSmallWeights proof.now }
     requires countable { IsCountableProof proof.now }
@@ -71,8 +142,8 @@ fn whole(alloc: Global, problem: &Problem, roster: &Roster) -> Result<(), No>
     requires lines { length roster.now ≡ length problem.now.base.members }
     requires pairings { AreInRange problem.now roster.now }
     ensures complete { OnOk result (IsComplete problem.now roster.now) }
-    ensures fault { (proofs : Sequence (Sequence Step)) → IfErr result (IsFirstNo problem.now roster.now proofs) }
-    ensures incomplete { IfErr result (λ why. NamesFault why → IsComplete problem.now roster.now → ⊥) }
+    ensures fault { IfErr result (IsIncomplete problem.now roster.now) }
+    ensures incomplete { Excludes result (IsComplete problem.now roster.now) }
 {
     match complete(alloc, problem, roster) {
         Ok(()) => Ok(()),
@@ -82,14 +153,14 @@ fn whole(alloc: Global, problem: &Problem, roster: &Roster) -> Result<(), No>
     }
 }
 
-/// The first place whose proof does not close the goal above the scores, and what is wrong with it.
+/// The first place whose proof does not close the goal above the scores, and what is wrong there.
 fn places(alloc: Global, problem: &Problem, scores: &[u32], proofs: &[Proof]) -> Result<(), No>
     requires members { length scores.now ≡ length problem.now.base.members }
     requires amount { length proofs.now ≡ length scores.now }
     requires room { All (λ s. s + 1 < 2 ^ 32) scores.now }
     requires small_weights { HaveSmallWeights proofs.now }
     requires countable { IsCountable proofs.now }
-    ensures closed { OnOk result (AreClosed problem.now scores.now proofs.now (length proofs.now)) }
+    ensures closed { OnOk result (AreAllClosed problem.now scores.now proofs.now) }
     ensures fault { IfErr result (IsFirstOfPlaces problem.now scores.now proofs.now) }
 {
     for (place, proof) in proofs.iter().enumerate() {

@@ -1,11 +1,10 @@
 //! Best lines, by a caller that counts no steps.
-ghost use Rattle.std.specs.Prelude.{◌≡◌, ◌<◌, ◌^◌, IfErr, IfNone, IfOk, IfSome, IsErrOf, OnOk, length};
-ghost use Rattle.roster_model.specs.Goals.{IsGoal, IsNode};
+ghost use Rattle.std.specs.Prelude.{◌≡◌, ◌<◌, IfErr, IfNone, IfOk, IfSome, IsErrOf, OnOk};
 ghost use Rattle.roster_model.specs.Lenses.{HasNoLine, IsBestWeight, IsLens, IsLensLine, IsMostWeight};
-ghost use Rattle.roster_model.specs.Weights.{AreSmallWeights, weight_of};
+ghost use Rattle.roster_model.specs.Weights.{weight_of};
 ghost use Rattle.line_lens.specs.LensFaults.{IsLensFault};
 ghost use Rattle.line_lens.specs.declared.lens_fault.LensFault.{LensFault as Why};
-ghost use Rattle.cert_checker.specs.Given.{HasFewWindows};
+ghost use Rattle.cert_checker.specs.Given.{IsQuestion};
 ghost use Rattle.cert_checker.specs.Faults.{IsStepFault};
 ghost use Rattle.cert_checker.specs.Bests.{IsShapeFault, IsWithin};
 
@@ -17,8 +16,9 @@ use std::alloc::Global;
 use std::marker::Brand;
 use std::sync::ledger::{Blank, Ledger};
 
-/// The best line, whose steps are counted from a blank on.
-fn best_from<L: Ledger>(
+/// A line of the member that passes the lens, of the greatest weight, or nothing where no line
+/// passes. Its steps are counted from the blank on.
+fn best_line<L: Ledger>(
     alloc: Global,
     problem: &Problem,
     member: u32,
@@ -28,12 +28,7 @@ fn best_from<L: Ledger>(
     weights: &[i64],
     blank: Blank,
 ) -> Result<Option<PricedLine>, BestFault>
-    requires member_in_range { member < length problem.now.base.members }
-    requires goal { IsGoal problem.now goal.now }
-    requires node { IsNode problem.now node.now }
-    requires listed { HasFewWindows lens.now }
-    requires per_pairing { length weights.now ≡ length problem.now.base.pairings }
-    requires small { AreSmallWeights weights.now }
+    requires asked { IsQuestion problem.now member goal.now node.now lens.now weights.now }
     requires name { blank.name ≡ L.name }
     requires parts { blank.parts ≡ L.parts }
     requires share { 0 < blank.parts }
@@ -50,41 +45,6 @@ fn best_from<L: Ledger>(
     )
 }
 
-/// A line of the member that passes the lens, of the greatest weight, or nothing where no line passes.
-fn best_line(
-    alloc: Global,
-    problem: &Problem,
-    member: u32,
-    goal: &Goal,
-    node: &Node,
-    lens: &Lens,
-    weights: &[i64],
-) -> Result<Option<PricedLine>, BestFault>
-    requires member_in_range { member < length problem.now.base.members }
-    requires goal { IsGoal problem.now goal.now }
-    requires node { IsNode problem.now node.now }
-    requires listed { HasFewWindows lens.now }
-    requires per_pairing { length weights.now ≡ length problem.now.base.pairings }
-    requires small { AreSmallWeights weights.now }
-    ensures shape { OnOk result (IsLens problem.now member lens.now) }
-    ensures fault { (why : Why) → IsErrOf result (BestFault.Lens why) → IsLensFault problem.now member lens.now why }
-    ensures line { IfOk result (λ answer. IfSome answer (λ b. IsLensLine problem.now member goal.now node.now lens.now b.line)) }
-    ensures weight { IfOk result (λ answer. IfSome answer (λ b. weight_of weights.now b.line ≡ b.weight)) }
-    ensures most { IfOk result (λ answer. IfSome answer (λ b. IsMostWeight problem.now member goal.now node.now lens.now weights.now b.weight)) }
-    ensures none { IfOk result (λ answer. IfNone answer (HasNoLine problem.now member goal.now node.now lens.now)) }
-{
-    best_from::<Brand>(
-        alloc,
-        problem,
-        member,
-        goal,
-        node,
-        lens,
-        weights,
-        Blank::new(1),
-    )
-}
-
 /// The greatest weight of the member's lines that pass the lens, or nothing where no line passes.
 pub(crate) fn best_weight(
     alloc: Global,
@@ -95,19 +55,15 @@ pub(crate) fn best_weight(
     lens: &Lens,
     weights: &[i64],
 ) -> Result<Option<i64>, StepFault>
-    requires member_in_range { member < length problem.now.base.members }
-    requires goal { IsGoal problem.now goal.now }
-    requires node { IsNode problem.now node.now }
-    requires listed { HasFewWindows lens.now }
-    requires per_pairing { length weights.now ≡ length problem.now.base.pairings }
-    requires small { AreSmallWeights weights.now }
+    requires asked { IsQuestion problem.now member goal.now node.now lens.now weights.now }
     ensures shape { OnOk result (IsLens problem.now member lens.now) }
     ensures fault { IfErr result (IsStepFault (IsShapeFault problem.now member lens.now)) }
     ensures best { IfOk result (λ answer. IfSome answer (IsBestWeight problem.now member goal.now node.now lens.now weights.now)) }
     ensures within { IfOk result (λ answer. IfSome answer (IsWithin 1288490188200)) }
     ensures none { IfOk result (λ answer. IfNone answer (HasNoLine problem.now member goal.now node.now lens.now)) }
 {
-    match best_line(alloc, problem, member, goal, node, lens, weights) {
+    let blank = Blank::new(1);
+    match best_line::<Brand>(alloc, problem, member, goal, node, lens, weights, blank) {
         Ok(Some(priced)) => Ok(Some(priced.weight)),
         Ok(None) => Ok(None),
         Err(BestFault::Lens(why)) => Err(StepFault::Of(ItemFault::Lens(member, why))),

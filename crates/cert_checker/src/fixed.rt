@@ -1,8 +1,8 @@
 //! Items on a member whose line is decided and does not serve.
-ghost use Rattle.std.specs.Prelude.{◌≡◌, ◌<◌, ◌↔◌, length, All, IsTrue, OnOk, IfOk, IfErr, MatchOption};
-ghost use Rattle.roster_model.specs.Closing.{decided_line, IsDecidedLine, IsMisfit};
+ghost use Rattle.std.specs.Prelude.{◌≡◌, ◌<◌, ◌↔◌, length, All, IsTrue, OnOk, IfOk, IfErr};
+ghost use Rattle.roster_model.specs.Closing.{decided_line, IsMisfit};
 ghost use Rattle.roster_model.specs.Goals.{IsGoal};
-ghost use Rattle.cert_checker.specs.Faults.{FixedFails, IsBidMet, IsFirstUndecided, IsFloorMet, IsStepFault, Serves};
+ghost use Rattle.cert_checker.specs.Faults.{FindsUndecided, FixedFails, IsBidMet, IsFloorMet, IsStepFault, Serves};
 
 use crate::count::is_decided_as;
 use crate::refusal::{ItemFault, StepFault};
@@ -14,7 +14,7 @@ use std::alloc::Global;
 
 /// The first pairing that is not decided for the member.
 fn first_undecided(problem: &Problem, node: &Node, member: u32) -> Option<u32>
-    ensures first { MatchOption result (IsDecidedLine problem.now node.now member) (IsFirstUndecided problem.now node.now member) }
+    ensures first { FindsUndecided problem.now node.now member result }
 {
     for pairing in 0..problem.base.pairings.len() as u32 {
         if !node.is_decided(member, pairing) {
@@ -78,8 +78,8 @@ fn serves(
     requires goal { IsGoal problem.now goal.now }
     requires member { member < length problem.now.base.members }
     requires pairings { All (λ p. p < length problem.now.base.pairings) line.now }
-    ensures serves { IfOk result (λ yes. IsTrue yes → Serves problem.now goal.now member line.now) }
-    ensures fails { IfOk result (λ yes. Serves problem.now goal.now member line.now → IsTrue yes) }
+    ensures serves { IfOk result (λ b. IsTrue b → Serves problem.now goal.now member line.now) }
+    ensures fails { IfOk result (λ b. Serves problem.now goal.now member line.now → IsTrue b) }
 {
     if !is_floor_met(problem, goal, member, line) || !is_bid_met(problem, goal, member, line) {
         return Ok(false);

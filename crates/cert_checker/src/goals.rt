@@ -30,17 +30,5 @@ pub(crate) fn goal_above(alloc: Global, scores: &[u32], place: usize) -> Result<
     requires room { All (λ s. s + 1 < 2 ^ 32) scores.now }
     ensures value { IfOk result (λ goal. goal ≡ above_at scores.now place) }
 {
-    let mut floors = List::new(alloc);
-    for score in &scores[..place] {
-        if floors.push(*score).is_err() {
-            return Err(Memory::NoMemory);
-        }
-    }
-    if floors.push(scores[place] + 1).is_err() {
-        return Err(Memory::NoMemory);
-    }
-    Ok(Goal {
-        floors,
-        grant: None,
-    })
+    Goal::reaching(alloc, &scores[..place], scores[place] + 1)
 }

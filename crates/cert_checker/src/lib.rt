@@ -1,5 +1,5 @@
-//! The judge of awards: whether a roster is complete and each place's proof closes its goal, with nothing of the
-//! search that found them.
+//! The judge of awards: whether a roster is complete, each place's proof closes its goal, and each
+//! denied bid has its reason, which is shown; with nothing of the search that found them.
 #![tactic(auto)]
 
 mod award;
@@ -8,11 +8,14 @@ mod count;
 mod fixed;
 mod goals;
 mod noline;
+mod reasons;
 mod refusal;
+mod shown;
 mod split;
 mod walk;
 mod weights;
+mod witness;
 
-pub use award::{judge, judge_none};
+pub use award::{judge, judge_none, judge_places};
 pub use goals::scores_of;
 pub use refusal::{ItemFault, No};

@@ -41,8 +41,9 @@ pub enum ItemFault {
     Width(u32, u32),
 }
 
-/// The first test of an award that fails. Members, pairings, bids, searches and items are numbers from 0, and the
-/// search of a place has the place's number.
+/// The first test of an award that fails. Members, pairings, bids, searches and items are numbers
+/// from 0. The search of a place has the place's number, and that of a reason the reason's number
+/// and the number of members added to it.
 #[derive(Clone, Copy, PartialEq, Eq, Debug, Error)]
 pub enum No {
     /// No memory was left. Code 0.
@@ -54,8 +55,9 @@ pub enum No {
     /// The first pairing without its crew, and the crew that it has. Code 2.
     #[error("pairing {0} has a crew of {1}")]
     Cover(u32, u32),
-    /// There are so many proofs, and not one for each place. Code 3.
-    #[error("{0} proofs")]
+    /// There are so many proofs, and not one for each place; or so many parts are shown, and not
+    /// one for each reason. Code 3.
+    #[error("{0} proofs or parts")]
     Amount(u32),
     /// A search, the first of its items that is not accepted, and why. Code 4.
     #[error("search {0}, item {1}: {2}")]

@@ -1,12 +1,10 @@
 //! The walk over the items of a closing proof.
-ghost use Rattle.std.specs.Prelude.{◌≡◌, ◌^◌, ◌<◌, [], ◌∷◌, true, length, All, OnOk, IfOk, IfErr};
-ghost use Rattle.roster_model.specs.Decided.{nodes_behind, open_nodes};
+ghost use Rattle.std.specs.Prelude.{◌≡◌, ◌^◌, ◌<◌, [], true, length, All, OnOk, IfOk, IfErr};
 ghost use Rattle.roster_model.specs.Closing.{Closes};
 ghost use Rattle.roster_model.specs.Goals.{IsGoal, IsNode};
-ghost use Rattle.roster_model.specs.Walk.{Leads};
 ghost use Rattle.cert_checker.specs.Given.{HasFewParts, HasSmallWeights, IsCountableProof};
 ghost use Rattle.cert_checker.specs.Faults.{Fails, IsStepFault};
-ghost use Rattle.cert_checker.specs.Stops.{Stops};
+ghost use Rattle.cert_checker.specs.Stops.{GoesOver, Stops};
 
 use crate::count::count;
 use crate::fixed::fixed;
@@ -29,7 +27,7 @@ fn step(
     requires node { IsNode problem.now node.old }
     requires small { HasSmallWeights item.now }
     requires countable { HasFewParts item.now }
-    ensures goes { IfOk result (λ is_open. Leads problem.now goal.now (node.old ∷ nodes_behind node.old) (item.now ∷ []) (open_nodes is_open node.new)) }
+    ensures goes { IfOk result (GoesOver problem.now goal.now node.old item.now node.new) }
     ensures node { IfOk result (λ is_open. is_open ≡ true → IsNode problem.now node.new) }
     ensures fault { IfErr result (IsStepFault (Fails problem.now goal.now node.old item.now)) }
 {

@@ -1,11 +1,11 @@
 //! Items whose weights show that no lines give the crews that are needed.
-ghost use Rattle.std.specs.Prelude.{◌≡◌, ◌<◌, ◌≤◌, ◌*◌, ◌^◌, ◌↔◌, ℤ, pos, ◌*ℤ◌, length, All, IfErr, IfOk, IsTrue, MatchOption, OnOk};
+ghost use Rattle.std.specs.Prelude.{◌≡◌, ◌<◌, ◌≤◌, ◌*◌, ◌^◌, ◌↔◌, ℤ, pos, ◌*ℤ◌, length, All, IfErr, IfOk, IsTrue, OnOk};
 ghost use Rattle.roster_model.specs.Goals.{IsGoal, IsNode};
 ghost use Rattle.roster_model.specs.Lenses.{AreLenses, IsBestWeight, IsLens, IsOutweighed};
 ghost use Rattle.roster_model.specs.Weights.{AreSmallWeights, IsSmallWeight, needed_weight};
-ghost use Rattle.cert_checker.specs.Given.{HasFewWindows};
-ghost use Rattle.cert_checker.specs.Faults.{AreWide, IsFirstMisshapen, IsStepFault, WeightsFails};
-ghost use Rattle.cert_checker.specs.Bests.{IsLinelessFault, IsNothingFault, IsWithin, WeighTogether};
+ghost use Rattle.cert_checker.specs.Given.{HasFewWindows, IsQuestion};
+ghost use Rattle.cert_checker.specs.Faults.{AreWide, FindsMisshapen, IsStepFault, WeightsFails};
+ghost use Rattle.cert_checker.specs.Bests.{IsLinelessFault, IsNothingFault, IsWithin, LinesWeigh};
 
 use crate::bests::best_weight;
 use crate::refusal::{ItemFault, StepFault};
@@ -25,7 +25,7 @@ fn are_wide(problem: &Problem, weights: &[i32], lenses: &[Lens]) -> bool
 fn first_misshapen(problem: &Problem, lenses: &[Lens]) -> Option<(u32, LensFault)>
     requires per_member { length lenses.now ≡ length problem.now.base.members }
     requires listed { All HasFewWindows lenses.now }
-    ensures first { MatchOption result (AreLenses problem.now lenses.now) (λ found. IsFirstMisshapen problem.now lenses.now found.0 found.1) }
+    ensures first { FindsMisshapen problem.now lenses.now result }
 {
     for (member, lens) in lenses.iter().enumerate() {
         if let Err(why) = check_lens(problem, member as u32, lens) {
@@ -79,12 +79,7 @@ fn line_weight(
     member: u32,
     lens: &Lens,
 ) -> Result<i64, StepFault>
-    requires member_in_range { member < length problem.now.base.members }
-    requires goal { IsGoal problem.now goal.now }
-    requires node { IsNode problem.now node.now }
-    requires listed { HasFewWindows lens.now }
-    requires per_pairing { length weights.now ≡ length problem.now.base.pairings }
-    requires small { AreSmallWeights weights.now }
+    requires asked { IsQuestion problem.now member goal.now node.now lens.now weights.now }
     requires shape { IsLens problem.now member lens.now }
     ensures best { IfOk result (IsBestWeight problem.now member goal.now node.now lens.now weights.now) }
     ensures within { IfOk result (IsWithin 1288490188200) }
@@ -112,7 +107,7 @@ fn best_weights(
     requires per_member { length lenses.now ≡ length problem.now.base.members }
     requires shapes { AreLenses problem.now lenses.now }
     requires listed { All HasFewWindows lenses.now }
-    ensures together { IfOk result (WeighTogether problem.now goal.now node.now weights.now lenses.now (length lenses.now)) }
+    ensures together { IfOk result (LinesWeigh problem.now goal.now node.now weights.now lenses.now) }
     ensures fault { IfErr result (IsStepFault (IsLinelessFault problem.now goal.now node.now lenses.now)) }
 {
     let mut sum = 0;

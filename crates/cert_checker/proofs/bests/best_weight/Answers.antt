@@ -9,6 +9,6 @@ pub returns-in-Ok-Some-clause-within : goal.returns-in-Ok-Some-clause-within
 returns-in-Ok-Some-clause-within c =
     let range : FitsSigned w64 c.in-Ok-Some.priced.weight = search rules in
     subst (λ (z : ℤ). IsWithin 1288490188200 z) (sym (to_z-of_z w64 c.in-Ok-Some.priced.weight range))
-    (line_within c.args.problem.now c.args.member c.args.goal.now c.args.node.now c.args.lens.now c.args.weights.now _ c.in-Ok-Some.priced.weight c.requires.small
+    (line_within c.args.problem.now c.args.member c.args.goal.now c.args.node.now c.args.lens.now c.args.weights.now _ c.in-Ok-Some.priced.weight c.requires.asked.small
     (some_at c.in-Ok-Some.field-0 c.in-Ok-Some.priced _ c.in-Ok-Some.field-0-is c.in-Ok-Some.ensures.line)
     (some_at c.in-Ok-Some.field-0 c.in-Ok-Some.priced _ c.in-Ok-Some.field-0-is c.in-Ok-Some.ensures.weight))

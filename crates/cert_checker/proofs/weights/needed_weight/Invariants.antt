@@ -1,5 +1,6 @@
 use Rattle.std.proofs.Common.{◌≡◌, ◌*◌}
-use Rattle.cert_checker.specs.Bests.{IsWithin, needed_below}
+use Rattle.cert_checker.specs.Bests.{IsWithin}
+use Rattle.cert_checker.proofs.Together.{needed_below}
 use Rattle.cert_checker.proofs.weights.needed_weight.Given as goal
 
 abbrev pub invariant-loop-pairing : goal.invariant-loop-pairing

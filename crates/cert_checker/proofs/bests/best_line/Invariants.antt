@@ -1,4 +1,0 @@
-use Rattle.cert_checker.proofs.bests.best_line.Given as goal
-
-abbrev pub ghosts-best_from : goal.ghosts-best_from
-ghosts-best_from a = record { name = a.blank.name; parts = a.blank.parts }

@@ -1,0 +1,133 @@
+//! Rosters that are shown for reasons.
+ghost use Rattle.std.specs.Prelude.{◌≡◌, ◌↔◌, ◌<◌, length, All, IfOk, IsTrue};
+ghost use Rattle.roster_model.specs.Rosters.{IsComplete, line_at, scores_of};
+ghost use Rattle.roster_model.specs.Goals.{IsBidOf};
+ghost use Rattle.roster_model.specs.Denials.{HasScoresFor, ReachesBefore, is_granted_by};
+ghost use Rattle.cert_checker.specs.Given.{AreInRange};
+ghost use Rattle.cert_checker.specs.Reasons.{Decides};
+ghost use Rattle.cert_checker.specs.Unshown.{IsWitnessOf};
+
+use bid_score::{granted, score};
+use duty_calendar::Memory;
+use line_legality::{RosterFault, complete};
+use roster_model::{BidRef, Cause, Denial, Line, Problem, Roster};
+use std::alloc::Global;
+
+/// Whether the line names pairings of the problem.
+fn is_in_range(problem: &Problem, line: &Line) -> bool
+    ensures known { IsTrue result ↔ All (λ p. p < length problem.now.base.pairings) line.now }
+{
+    line.pairings()
+        .iter()
+        .all(|p| (*p as usize) < problem.base.pairings.len())
+}
+
+/// Whether each line of the roster does.
+fn are_in_range(problem: &Problem, roster: &Roster) -> bool
+    ensures known { IsTrue result ↔ AreInRange problem.now roster.now }
+{
+    roster
+        .as_slice()
+        .iter()
+        .all(|line| is_in_range(problem, line))
+}
+
+/// Whether the roster is complete.
+fn is_complete(alloc: Global, problem: &Problem, roster: &Roster) -> Result<bool, Memory>
+    ensures complete { IfOk result (Decides (IsComplete problem.now roster.now)) }
+{
+    if roster.len() != problem.base.members.len() {
+        return Ok(false);
+    }
+    if !are_in_range(problem, roster) {
+        return Ok(false);
+    }
+    match complete(alloc, problem, roster) {
+        Ok(()) => Ok(true),
+        Err(RosterFault::NoMemory) => Err(Memory::NoMemory),
+        Err(RosterFault::Line(_, _)) => Ok(false),
+        Err(RosterFault::Cover(_, _)) => Ok(false),
+    }
+}
+
+/// Whether the bid is granted.
+fn is_granted(problem: &Problem, roster: &Roster, bid: BidRef) -> bool
+    requires bid { IsBidOf problem.now bid }
+    requires lines { length roster.now ≡ length problem.now.base.members }
+    requires pairings { AreInRange problem.now roster.now }
+    ensures granted { result ≡ is_granted_by problem.now roster.now bid }
+{
+    granted(
+        problem,
+        bid.member,
+        bid.bid,
+        &roster.as_slice()[bid.member as usize],
+    )
+}
+
+/// Whether the roster has these scores.
+fn has_scores(problem: &Problem, scores: &[u32], roster: &Roster) -> bool
+    requires members { length scores.now ≡ length problem.now.base.members }
+    requires lines { length roster.now ≡ length problem.now.base.members }
+    requires pairings { AreInRange problem.now roster.now }
+    ensures same { Decides (scores_of problem.now roster.now ≡ scores.now) result }
+{
+    for (member, line) in roster.as_slice().iter().enumerate() {
+        if score(problem, member as u32, line) != scores[member] {
+            return false;
+        }
+    }
+    true
+}
+
+/// Whether the roster has these scores, or higher ones, at the places before this one.
+fn reaches_before(problem: &Problem, scores: &[u32], place: u32, roster: &Roster) -> bool
+    requires members { length scores.now ≡ length problem.now.base.members }
+    requires lines { length roster.now ≡ length problem.now.base.members }
+    requires pairings { AreInRange problem.now roster.now }
+    ensures reaches { Decides (ReachesBefore problem.now scores.now place roster.now) result }
+{
+    for (member, line) in roster.as_slice().iter().enumerate() {
+        if member + 1 < place as usize {
+            if score(problem, member as u32, line) < scores[member] {
+                return false;
+            }
+        }
+    }
+    true
+}
+
+/// Whether the roster has the scores that the cause asks for.
+fn has_scores_for(problem: &Problem, scores: &[u32], cause: Cause, roster: &Roster) -> bool
+    requires members { length scores.now ≡ length problem.now.base.members }
+    requires lines { length roster.now ≡ length problem.now.base.members }
+    requires pairings { AreInRange problem.now roster.now }
+    ensures scored { Decides (HasScoresFor problem.now scores.now cause roster.now) result }
+{
+    match cause {
+        Cause::Tie => has_scores(problem, scores, roster),
+        Cause::Place(place) => reaches_before(problem, scores, place, roster),
+    }
+}
+
+/// Whether the roster is as it is to be shown for the reason: complete, with the bid granted, and
+/// with the scores that the cause asks for.
+pub(crate) fn is_witness(
+    alloc: Global,
+    problem: &Problem,
+    scores: &[u32],
+    denial: Denial,
+    roster: &Roster,
+) -> Result<bool, Memory>
+    requires members { length scores.now ≡ length problem.now.base.members }
+    requires bid { IsBidOf problem.now denial.bid }
+    ensures serves { IfOk result (Decides (IsWitnessOf problem.now scores.now denial roster.now)) }
+{
+    if !is_complete(alloc, problem, roster)? {
+        return Ok(false);
+    }
+    if !is_granted(problem, roster, denial.bid) {
+        return Ok(false);
+    }
+    Ok(has_scores_for(problem, scores, denial.cause, roster))
+}
