@@ -1,0 +1,6 @@
+pub mod Turned
+pub mod Lines
+pub mod Facts
+pub mod RowSums
+pub mod Shapes
+pub mod Evened

@@ -1,0 +1,145 @@
+//! Rounds of heaviest lines, each under the negated sums of the misses of those before.
+ghost use Rattle.std.specs.Prelude.{◌≡◌, ◌++◌, ◌∷◌, [], ◌<◌, ◌≤◌, All, length, IfOk, OnOk, replicate, pos};
+ghost use Rattle.roster_model.specs.Goals.{IsGoal, IsNode};
+ghost use Rattle.roster_model.specs.Weights.{AreSmallWeights};
+ghost use Rattle.weight_certificates.specs.Evidence.{HasEnded, IsEvidence, IsPriced};
+ghost use Rattle.weight_certificates.specs.Pricing.{AreStandard};
+
+use crate::best::heaviest_line;
+use crate::rows::{product, set_miss, subtract};
+use duty_calendar::{List, Memory};
+use roster_model::{Goal, Lens, Line, Node, Problem, Roster};
+use std::alloc::Global;
+
+/// The heaviest lines of all members, or a member without a line.
+#[derive(Drop)]
+pub(crate) enum Priced {
+    Round(Roster),
+    NoLine(u32),
+}
+
+/// How rounds end, where their weights stand in a row of the caller.
+#[derive(Drop)]
+pub(crate) enum Ended {
+    NoLine(u32),
+    Outweighed,
+    Even(Roster),
+}
+
+/// How rounds end: with a member without a line, with weights under which the lines fall short of the needs, or even,
+/// with the last round.
+#[derive(Drop)]
+pub(crate) enum Evidence {
+    NoLine(u32),
+    Outweighed(Vec<i64>),
+    Even(Roster),
+}
+
+/// Adds a line to a round.
+fn add_line(round: &mut Roster, line: Line) -> Result<(), Memory>
+    ensures added { OnOk result (round.new ≡ round.old ++ line ∷ []) }
+{
+    match round.push(line) {
+        Ok(()) => Ok(()),
+        Err(_line) => Err(Memory::NoMemory),
+    }
+}
+
+/// A heaviest line of each member.
+fn heaviest_round(
+    alloc: Global,
+    problem: &Problem,
+    goal: &Goal,
+    node: &Node,
+    lenses: &[Lens],
+    weights: &[i64],
+) -> Result<Priced, Memory>
+    requires goal { IsGoal problem.now goal.now }
+    requires node { IsNode problem.now node.now }
+    requires lenses { AreStandard problem.now lenses.now }
+    requires per_pairing { length weights.now ≡ length problem.now.base.pairings }
+    requires small { AreSmallWeights weights.now }
+    ensures priced { IfOk result (IsPriced problem.now goal.now node.now weights.now lenses.now) }
+{
+    let mut round = List::new(alloc);
+    for (member, lens) in lenses.iter().enumerate() {
+        let member = member as u32;
+        let Some(line) = heaviest_line(alloc, problem, member, goal, node, lens, weights)? else {
+            return Ok(Priced::NoLine(member));
+        };
+        add_line(&mut round, line)?;
+    }
+    Ok(Priced::Round(round))
+}
+
+/// Rounds over a row of weights, which is zero at first, with room for a miss.
+fn rounds_over(
+    alloc: Global,
+    problem: &Problem,
+    goal: &Goal,
+    node: &Node,
+    lenses: &[Lens],
+    count: u32,
+    weights: &mut [i64],
+    miss: &mut [i64],
+) -> Result<Ended, Memory>
+    requires goal { IsGoal problem.now goal.now }
+    requires node { IsNode problem.now node.now }
+    requires lenses { AreStandard problem.now lenses.now }
+    requires some_rounds { 1 ≤ count }
+    requires few_rounds { count ≤ 2000 }
+    requires zero { weights.old ≡ replicate (length problem.now.base.pairings) (pos 0) }
+    requires room { length miss.old ≡ length problem.now.base.pairings }
+    ensures ended { IfOk result (HasEnded problem.now goal.now node.now lenses.now count weights.new) }
+{
+    let mut last = List::new(alloc);
+    for _ in 0..count {
+        let round = match heaviest_round(alloc, problem, goal, node, lenses, weights)? {
+            Priced::Round(round) => round,
+            Priced::NoLine(member) => return Ok(Ended::NoLine(member)),
+        };
+        set_miss(miss, problem, round.as_slice());
+        if product(weights, miss) < 0 {
+            return Ok(Ended::Outweighed);
+        }
+        subtract(weights, miss);
+        last = round;
+    }
+    Ok(Ended::Even(last))
+}
+
+/// Rounds by the standard lenses, so many unless they end before.
+pub(crate) fn price_rounds(
+    alloc: Global,
+    problem: &Problem,
+    goal: &Goal,
+    node: &Node,
+    lenses: &[Lens],
+    count: u32,
+) -> Result<Evidence, Memory>
+    requires goal { IsGoal problem.now goal.now }
+    requires node { IsNode problem.now node.now }
+    requires lenses { AreStandard problem.now lenses.now }
+    requires some_rounds { 1 ≤ count }
+    requires few_rounds { count ≤ 2000 }
+    ensures evidence { IfOk result (IsEvidence problem.now goal.now node.now lenses.now count) }
+{
+    let pairings = problem.base.pairings.len();
+    let mut weights = vec![in alloc; 0i64; pairings]?;
+    let mut miss = vec![in alloc; 0i64; pairings]?;
+    let ended = rounds_over(
+        alloc,
+        problem,
+        goal,
+        node,
+        lenses,
+        count,
+        &mut weights,
+        &mut miss,
+    )?;
+    Ok(match ended {
+        Ended::NoLine(member) => Evidence::NoLine(member),
+        Ended::Outweighed => Evidence::Outweighed(weights),
+        Ended::Even(last) => Evidence::Even(last),
+    })
+}
