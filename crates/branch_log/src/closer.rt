@@ -1,0 +1,44 @@
+//! What closes nodes.
+ghost use Rattle.std.specs.Prelude.{◌≡◌, ◌↔◌, ℕ, IfOk};
+ghost use Rattle.roster_model.specs.declared.problem.Problem.{Problem};
+ghost use Rattle.roster_model.specs.Goals.{IsGoal, IsNode};
+ghost use Rattle.branch_log.specs.Honest.{IsHonest};
+
+use duty_calendar::Memory;
+use roster_model::{Goal, Item, Node, Problem, Roster};
+use std::alloc::Global;
+
+/// What a closer says of a node.
+#[derive(Drop, PartialEq, Eq, Debug)]
+pub enum Verdict {
+    /// This leaf is accepted there.
+    Closed(Item),
+    /// This roster is complete, meets the goal and obeys the node.
+    Whole(Roster),
+    /// The node is open, and this member and pairing are a pair to branch on.
+    Branch(u32, u32),
+}
+
+/// Closes nodes, or shows that they are open.
+pub trait Closer {
+    /// How many rounds show that a node is open.
+    ghost rounds: { Self → ℕ };
+
+    /// Which problems the closer was made for.
+    ghost fits: { Self → Problem → Type 0 };
+
+    /// What there is to say of the node at the goal.
+    fn close(
+        &mut self,
+        alloc: Global,
+        problem: &Problem,
+        goal: &Goal,
+        node: &Node,
+    ) -> Result<Verdict, Memory>
+        requires fits { fits self.old problem.now }
+        requires goal { IsGoal problem.now goal.now }
+        requires node { IsNode problem.now node.now }
+        ensures rounds { rounds self.new ≡ rounds self.old }
+        ensures fits { (other : Problem) → fits self.new other ↔ fits self.old other }
+        ensures honest { IfOk result (IsHonest problem.now (rounds self.old) goal.now node.now) };
+}

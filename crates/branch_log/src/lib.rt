@@ -1,0 +1,10 @@
+//! What closes the nodes of a search, and the ledger of the nodes that stay open.
+#![tactic(auto)]
+
+mod closer;
+mod ledger;
+#[cfg(test)]
+mod tests;
+
+pub use closer::{Closer, Verdict};
+pub use ledger::Ledger;

@@ -1,0 +1,5 @@
+pub mod Path
+pub mod Grown
+pub mod Splits
+pub mod Added
+pub mod Lone
