@@ -1,9 +1,10 @@
 -- Nodes that neither crews nor decided lines close.
-use Rattle.std.specs.Prelude.{◌≡◌, ℕ, ◌<◌, ◌≤◌, true, List, length, slice_get}
+use Rattle.std.specs.Prelude.{◌≡◌, ℕ, ◌<◌, ◌≤◌, true, false, List, length, slice_get}
 use Rattle.std.specs.Option.{ForSome}
 use Rattle.roster_model.specs.declared.problem.Problem.{Problem}
 use Rattle.roster_model.specs.declared.goal.Goal.{Goal}
 use Rattle.roster_model.specs.declared.node.Decision.{Decision}
+use Rattle.roster_model.specs.Decided.{is_decided}
 use Rattle.roster_model.specs.Scores.{score_of, is_granted}
 use Rattle.roster_model.specs.Legality.{IsLegal}
 use Rattle.roster_model.specs.Goals.{MeetsGoal}
@@ -34,3 +35,12 @@ IsFitting problem goal node member =
 
 abbrev pub AreFitting : Problem → Goal → List Decision → Type 0
 AreFitting problem goal node = (m : ℕ) → m < length problem.base.members → IsFitting problem goal node m
+
+-- the pairing is one of the problem, and undecided for the member
+pub record IsOpenFor (problem : Problem) (node : List Decision) (member pairing : ℕ) : Type 0 where
+  pub in_range : pairing < length problem.base.pairings
+  pub undecided : is_decided node member pairing ≡ false
+
+-- every pair is decided
+abbrev pub IsAllDecided : Problem → List Decision → Type 0
+IsAllDecided problem node = (m : ℕ) → m < length problem.base.members → IsDecidedLine problem node m

@@ -2,3 +2,4 @@ pub mod Leaves
 pub mod Rows
 pub mod Pricing
 pub mod Evidence
+pub mod Setup

@@ -2,7 +2,14 @@
 #![tactic(auto)]
 
 mod best;
+mod closer;
+mod closing;
 mod crews;
 mod fixed;
+mod pairs;
+mod rosters;
 mod rounds;
 mod rows;
+mod shares;
+
+pub use closer::Rounds;

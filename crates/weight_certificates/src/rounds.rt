@@ -7,6 +7,7 @@ ghost use Rattle.weight_certificates.specs.Pricing.{AreStandard};
 
 use crate::best::heaviest_line;
 use crate::rows::{product, set_miss, subtract};
+use crate::shares::Shares;
 use duty_calendar::{List, Memory};
 use roster_model::{Goal, Lens, Line, Node, Problem, Roster};
 use std::alloc::Global;
@@ -72,7 +73,7 @@ fn heaviest_round(
     Ok(Priced::Round(round))
 }
 
-/// Rounds over a row of weights, which is zero at first, with room for a miss.
+/// Rounds over a row of weights, which is zero at first, with room for a miss. Counts their lines.
 fn rounds_over(
     alloc: Global,
     problem: &Problem,
@@ -82,6 +83,7 @@ fn rounds_over(
     count: u32,
     weights: &mut [i64],
     miss: &mut [i64],
+    shares: &mut Shares,
 ) -> Result<Ended, Memory>
     requires goal { IsGoal problem.now goal.now }
     requires node { IsNode problem.now node.now }
@@ -103,12 +105,13 @@ fn rounds_over(
             return Ok(Ended::Outweighed);
         }
         subtract(weights, miss);
+        shares.add(round.as_slice());
         last = round;
     }
     Ok(Ended::Even(last))
 }
 
-/// Rounds by the standard lenses, so many unless they end before.
+/// Rounds by the standard lenses, so many unless they end before. Counts their lines.
 pub(crate) fn price_rounds(
     alloc: Global,
     problem: &Problem,
@@ -116,6 +119,7 @@ pub(crate) fn price_rounds(
     node: &Node,
     lenses: &[Lens],
     count: u32,
+    shares: &mut Shares,
 ) -> Result<Evidence, Memory>
     requires goal { IsGoal problem.now goal.now }
     requires node { IsNode problem.now node.now }
@@ -136,6 +140,7 @@ pub(crate) fn price_rounds(
         count,
         &mut weights,
         &mut miss,
+        shares,
     )?;
     Ok(match ended {
         Ended::NoLine(member) => Evidence::NoLine(member),
