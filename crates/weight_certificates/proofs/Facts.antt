@@ -1,5 +1,5 @@
 -- Small facts on answers and reads.
-use Rattle.std.proofs.Common.{◌≡◌, ℕ, ◌+◌, ◌<◌, ◌⊎◌, Bool, true, false, List, [], ◌∷◌, ◌++◌, length, get_or, arith, refl, ap, sym, subst, inl, inr, zero, suc}
+use Rattle.std.proofs.Common.{◌≡◌, ℕ, ◌+◌, ◌<◌, ◌⊎◌, Bool, true, false, List, [], ◌∷◌, ◌++◌, length, get_or, arith, refl, ap, sym, subst, ◌∙◌, inl, inr, zero, suc}
 use Rattle.std.specs.Prelude.{OnOk, Result, Ok, Err, Some, slice_get, All}
 use Rattle.std.specs.Result.{is_err}
 use Rattle.std.proofs.lemmas.Bool.{cases_lt}
@@ -29,4 +29,14 @@ one_more P k before here m lt =
     elim (cases_lt m k) [
       | inl less ↦ before m less
       | inr more ↦ let same : k ≡ m = omega (arith, lt, more) in subst P same here
+    ]
+
+-- what is true of each element by its number, and of the one that is added
+pub each_more : {X : Type 0} (P : ℕ → X → Type 0) (xs longer : List X) (y : X) (n : ℕ)
+    → ((m : ℕ) (x : X) → slice_get xs m ≡ Some x → P m x) → length xs ≡ n → P n y → longer ≡ xs ++ y ∷ []
+    → (m : ℕ) (x : X) → slice_get longer m ≡ Some x → P m x
+each_more P xs longer y n each count here is m x at =
+    elim (get_pushed xs y m x (sym (ap (λ (l : List _). slice_get l m) is) ∙ at)) [
+      | inl old ↦ each m x old
+      | inr last ↦ subst (λ (k : ℕ). P k x) (sym (last.0 ∙ count)) (subst (P n) (sym last.1) here)
     ]

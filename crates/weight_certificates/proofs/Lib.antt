@@ -4,4 +4,4 @@ pub mod Facts
 pub mod RowSums
 pub mod Shapes
 pub mod Evened
-pub mod Closing
+pub mod OpenOrWhole

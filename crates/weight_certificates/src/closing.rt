@@ -1,15 +1,14 @@
 //! Closing a node, or showing that it is open.
-ghost use Rattle.std.specs.Prelude.{◌≡◌, ◌≤◌, ◌<◌, IfOk, OnOk, length, slice_get, ◌++◌, ◌∷◌, []};
-ghost use Rattle.roster_model.specs.Closing.{IsAccepted};
+ghost use Rattle.std.specs.Prelude.{◌≡◌, ◌≤◌, IfOk};
 ghost use Rattle.roster_model.specs.Goals.{IsGoal, IsNode};
-ghost use Rattle.roster_model.specs.Lenses.{IsOutweighed};
 ghost use Rattle.roster_model.specs.Weights.{AreSmallWeights, IsSmallWeight};
 ghost use Rattle.branch_log.specs.Honest.{IsHonest};
 ghost use Rattle.weight_certificates.specs.Leaves.{AreFitting, HaveCrews};
-ghost use Rattle.weight_certificates.specs.Pricing.{AreStandard, IsWithoutLine};
+ghost use Rattle.weight_certificates.specs.Pricing.{AreStandard};
 
 use crate::crews::miscrewed;
 use crate::fixed::misfit;
+use crate::lists::append;
 use crate::pairs::branch_pair;
 use crate::rosters::is_whole;
 use crate::rounds::{Evidence, price_rounds};
@@ -26,9 +25,7 @@ fn standard_lenses(alloc: Global, problem: &Problem) -> Result<List<Lens>, Memor
 {
     let mut lenses = List::new(alloc);
     for member in 0..problem.base.members.len() as u32 {
-        if lenses.push(standard_lens(alloc, problem, member)).is_err() {
-            return Err(Memory::NoMemory);
-        }
+        append(&mut lenses, standard_lens(alloc, problem, member))?;
     }
     Ok(lenses)
 }
@@ -51,31 +48,6 @@ fn narrowed(alloc: Global, weights: &[i64]) -> Result<List<i32>, Memory>
         list.push(narrow(*weight))?;
     }
     Ok(List::from_vec(list))
-}
-
-/// The leaf of these weights and lenses.
-fn weights_leaf(
-    alloc: Global,
-    problem: &Problem,
-    goal: &Goal,
-    node: &Node,
-    weights: &[i64],
-    lenses: List<Lens>,
-) -> Result<Item, Memory>
-    requires outweighed { IsOutweighed problem.now goal.now node.now weights.now lenses }
-    ensures accepted { IfOk result (IsAccepted problem.now goal.now node.now) }
-{
-    let _ = (problem, goal, node);
-    Ok(Item::Weights(narrowed(alloc, weights)?, lenses))
-}
-
-/// The leaf of a member without a line.
-fn no_line_leaf(alloc: Global, problem: &Problem, goal: &Goal, node: &Node, member: u32) -> Item
-    requires none { IsWithoutLine problem.now goal.now node.now member }
-    ensures accepted { IsAccepted problem.now goal.now node.now result }
-{
-    let _ = (goal, node);
-    Item::NoLine(member, standard_lens(alloc, problem, member))
 }
 
 /// What so many rounds by the standard lenses say of a node that neither crews nor decided lines close.
@@ -101,12 +73,12 @@ fn close_by_rounds(
     )?;
     let last = match evidence {
         Evidence::NoLine(member) => {
-            let leaf = no_line_leaf(alloc, problem, goal, node, member);
-            return Ok(Verdict::Closed(leaf));
+            let lens = standard_lens(alloc, problem, member);
+            return Ok(Verdict::Closed(Item::NoLine(member, lens)));
         }
         Evidence::Outweighed(weights) => {
-            let leaf = weights_leaf(alloc, problem, goal, node, &weights, lenses)?;
-            return Ok(Verdict::Closed(leaf));
+            let weights = narrowed(alloc, &weights)?;
+            return Ok(Verdict::Closed(Item::Weights(weights, lenses)));
         }
         Evidence::Even(last) => last,
     };

@@ -6,6 +6,7 @@ mod closer;
 mod closing;
 mod crews;
 mod fixed;
+mod lists;
 mod pairs;
 mod rosters;
 mod rounds;

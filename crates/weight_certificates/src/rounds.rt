@@ -1,15 +1,16 @@
 //! Rounds of heaviest lines, each under the negated sums of the misses of those before.
-ghost use Rattle.std.specs.Prelude.{◌≡◌, ◌++◌, ◌∷◌, [], ◌<◌, ◌≤◌, All, length, IfOk, OnOk, replicate, pos};
+ghost use Rattle.std.specs.Prelude.{◌≡◌, ◌≤◌, length, IfOk, replicate, pos};
 ghost use Rattle.roster_model.specs.Goals.{IsGoal, IsNode};
 ghost use Rattle.roster_model.specs.Weights.{AreSmallWeights};
 ghost use Rattle.weight_certificates.specs.Evidence.{HasEnded, IsEvidence, IsPriced};
 ghost use Rattle.weight_certificates.specs.Pricing.{AreStandard};
 
 use crate::best::heaviest_line;
+use crate::lists::append;
 use crate::rows::{product, set_miss, subtract};
 use crate::shares::Shares;
 use duty_calendar::{List, Memory};
-use roster_model::{Goal, Lens, Line, Node, Problem, Roster};
+use roster_model::{Goal, Lens, Node, Problem, Roster};
 use std::alloc::Global;
 
 /// The heaviest lines of all members, or a member without a line.
@@ -36,16 +37,6 @@ pub(crate) enum Evidence {
     Even(Roster),
 }
 
-/// Adds a line to a round.
-fn add_line(round: &mut Roster, line: Line) -> Result<(), Memory>
-    ensures added { OnOk result (round.new ≡ round.old ++ line ∷ []) }
-{
-    match round.push(line) {
-        Ok(()) => Ok(()),
-        Err(_line) => Err(Memory::NoMemory),
-    }
-}
-
 /// A heaviest line of each member.
 fn heaviest_round(
     alloc: Global,
@@ -68,7 +59,7 @@ fn heaviest_round(
         let Some(line) = heaviest_line(alloc, problem, member, goal, node, lens, weights)? else {
             return Ok(Priced::NoLine(member));
         };
-        add_line(&mut round, line)?;
+        append(&mut round, line)?;
     }
     Ok(Priced::Round(round))
 }

@@ -10,8 +10,8 @@ loop-member-preserved c =
     let list = c.args.lenses.now in
     let here = slice_get_read list (length list) c.loop-member.member c.index-lenses-member.result refl c.loop-member-test.true c.index-lenses-member.is in
     let is : IsHeaviestLine c.args.problem.now c.loop-member.member c.args.goal.now c.args.node.now c.index-lenses-member.result c.args.weights.now c.in-Some.line = rw c.in-Some.is at c.in_ok-line.ensures.heaviest in
-    heaviest_more c.args.problem.now c.args.goal.now c.args.node.now c.args.weights.now list c.loop-member.member c.loop-member.round c.add_line.new.round
-    c.in-Some.line c.index-lenses-member.result c.loop-member.invariant here is c.in_ok-add_line.ensures.added
+    heaviest_more c.args.problem.now c.args.goal.now c.args.node.now c.args.weights.now list c.loop-member.member c.loop-member.round c.append.new.list
+    c.in-Some.line c.index-lenses-member.result c.loop-member.invariant here is c.in_ok-append.ensures.added
 
 pub returns-in_default : goal.returns-in_default
 returns-in_default c =
