@@ -21,9 +21,10 @@ pub standard_tested : {E : Type 0} (r : Result Bool E) (problem : Problem) (memb
     → IsStandardLens problem member lens
     → IfOk r (λ yes. yes ≡ true ↔ IsLensLine problem member goal node lens line)
     → IfOk r (λ yes. IsTrue yes ↔ IsStandardLine problem goal node member line)
-standard_tested (Ok b) problem member goal node lens line standard is =
-    ((λ t. record { lens = lens; standard = standard; passes = is.0 t }),
-    (λ any. is.1 (standard-passes problem member any.lens lens any.standard standard line goal node any.passes)))
+standard_tested (Ok b) problem member goal node lens line standard is = (
+  (λ t. record { lens = lens; standard = standard; passes = is.0 t }),
+  (λ any. is.1 (standard-passes problem member any.lens lens any.standard standard line goal node any.passes)),
+)
 standard_tested (Err e) problem member goal node lens line standard is = tt
 
 module _ (problem : Problem) (goal : Goal) (node : List Decision) (member : ℕ) (weights : List ℤ) (lines : List (List ℕ)) (count : ℕ) where

@@ -7,3 +7,6 @@ mod lines;
 mod pool;
 
 pub use pool::Pool;
+
+#[cfg(test)]
+mod tests;

@@ -5,3 +5,4 @@ pub mod RowSums
 pub mod Shapes
 pub mod Evened
 pub mod OpenOrWhole
+pub mod Months

@@ -14,3 +14,6 @@ mod rows;
 mod shares;
 
 pub use closer::Rounds;
+
+#[cfg(test)]
+mod tests;
