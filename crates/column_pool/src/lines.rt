@@ -4,7 +4,7 @@ ghost use Rattle.roster_model.specs.Rosters.{line_at};
 ghost use Rattle.column_pool.specs.Kept.{offered};
 
 use crate::kept::KeptLine;
-use std::vec::Vec;
+use indexmap::IndexSet;
 use roster_model::Line;
 use std::alloc::Global;
 use std::marker::Model;
@@ -15,7 +15,7 @@ const MOST_LINES: usize = 10_000;
 /// Lines in the order in which they came, no two of them equal.
 #[derive(Drop)]
 pub(crate) struct Lines {
-    set: Vec<KeptLine>,
+    set: IndexSet<KeptLine>,
 }
 
 impl Model for Lines {
@@ -23,7 +23,7 @@ impl Model for Lines {
 
     ghost Value = { Sequence (Sequence ℕ) };
 
-    ghost view = { λ l. l.set.items };
+    ghost view = { λ l. l.set.keys };
 }
 
 impl Lines {
@@ -32,7 +32,7 @@ impl Lines {
         ensures empty { result ≡ [] }
     {
         Lines {
-            set: Vec::new(alloc),
+            set: IndexSet::new(alloc),
         }
     }
 
@@ -59,7 +59,7 @@ impl Lines {
         requires within { place < length self.now }
         ensures line { result.now ≡ line_at self.now place }
     {
-        match self.set.get(place) {
+        match self.set.get_index(place) {
             Some(kept) => kept.line(),
             None => unreachable!(),
         }
@@ -75,7 +75,7 @@ impl Lines {
         if self.set.len() >= MOST_LINES {
             return Ok(());
         }
-        match self.set.push(KeptLine::new(line)) {
+        match self.set.insert(KeptLine::new(line)) {
             Ok(_added) => Ok(()),
             Err(refused) => Err(refused.value.into_line()),
         }

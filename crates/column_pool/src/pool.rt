@@ -1,5 +1,5 @@
 //! The pool.
-ghost use Rattle.std.specs.Prelude.{◌≡◌, ◌<◌, All, length, slice_get, option_copied, IfErr, IfOk, OnErr, OnOk};
+ghost use Rattle.std.specs.Prelude.{◌≡◌, ◌<◌, All, length, slice_get, option_copied, IfErr, IfOk, IfSome, OnErr, OnOk};
 ghost use Rattle.roster_model.specs.Goals.{IsGoal, IsNode};
 ghost use Rattle.roster_model.specs.Weights.{AreSmallWeights};
 ghost use Rattle.column_pool.specs.Kept.{lines_of, no_lines, offered_to};
@@ -69,6 +69,7 @@ impl Pool {
     pub fn get(&self, member: u32, index: u32) -> Option<&Line>
         requires member { member < length self.now.lines }
         ensures value { option_copied result ≡ slice_get (lines_of self.now member) index }
+        ensures in_range { IfSome result (λ line. All (λ p. p < self.now.pairings) line.now) }
     {
         self.lines[member as usize].get(index as usize)
     }

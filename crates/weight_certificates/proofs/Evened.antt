@@ -4,7 +4,7 @@ use Rattle.std.specs.Prelude.{ℤ, pos, neg_ℤ, ◌+ℤ◌, ◌-ℤ◌, ◌*ℤ
 use Rattle.std.specs.Option.{option_map}
 use Rattle.std.proofs.lemmas.Bool.{cases_lt}
 use Rattle.std.proofs.lemmas.Int.{ints}
-use Rattle.std.proofs.lemmas.List.{length-map, length-replicate, get_or_append_left, take-append-le}
+use Rattle.std.proofs.lemmas.List.{length-map, length-replicate, get_or_append_left, get_or_default, take-append-le}
 use Rattle.std.proofs.Math.Seq.{get_or-append_seam, take-length}
 use Rattle.std.proofs.lemmas.List.Elements.{All-append, All-nil, All-cons}
 use Rattle.std.proofs.lemmas.Option.{slice_get-get_or, slice_get_cases, slice_get_within, slice_get-map}
@@ -23,6 +23,7 @@ use Rattle.roster_model.proofs.Sums.{product_of, sum_below-same, product-comm, p
 use Rattle.roster_model.proofs.WeightSums.{total_weight}
 use Rattle.weight_certificates.specs.Rows as rows
 use Rattle.weight_certificates.specs.Rows.{AreWithin}
+use Rattle.weight_certificates.specs.Columns.{IsHeavyEnough}
 use Rattle.weight_certificates.specs.Pricing.{AreHeaviest, AreStandard, IsHeaviestLine, IsWithoutLine}
 use Rattle.weight_certificates.specs.Evidence.{AreSummed, HaveEvened, HasLastRound}
 
@@ -37,6 +38,9 @@ small_weights weights within = λ k d lt.
     get_or_any [] k d e lt = absurd (omega arith)
     get_or_any (x ∷ xs) zero d e lt = refl
     get_or_any (x ∷ xs) (suc k) d e lt = get_or_any xs k d e (omega arith)
+
+pub within_weights : (weights : List ℤ) → AreSmallWeights weights → AreWithin 2147483647 weights
+within_weights weights small = λ k lt. let here = small k (pos 0) lt in omega (arith, ints, here.0, here.1)
 
 get_or-replicate : (n p : ℕ) → get_or (replicate n (pos 0)) p (pos 0) ≡ pos 0
 get_or-replicate zero p = refl
@@ -70,6 +74,15 @@ module _ (problem : Problem) (goal : Goal) (node : List Decision) where
         λ other is line passes.
         none line (standard-passes problem m other lens is (standard.standard m lens here) line goal node passes);
   }
+
+  -- the inner product of weights and a miss
+  product-misses : (weights miss : List ℤ) (round : List (List ℕ))
+      → ((p : ℕ) → p < length problem.base.pairings → weight_at miss p ≡ miss_of problem round p)
+      → length weights ≡ length problem.base.pairings
+      → rows.product_of weights miss ≡ product_of (weight_at weights) (miss_of problem round) (length problem.base.pairings)
+  product-misses weights miss round is per_pairing =
+      ap (λ (n : ℕ). product_of (weight_at weights) (weight_at miss) n) per_pairing
+      ∙ sum_below-same _ _ (length problem.base.pairings) (λ p lt. ap (λ (z : ℤ). weight_at weights p *ℤ z) (is p lt))
 
   module _ (weights : List ℤ) (lenses : List Lens) where
     pub heaviest_none : AreHeaviest problem goal node weights lenses 0 []
@@ -123,88 +136,86 @@ module _ (problem : Problem) (goal : Goal) (node : List Decision) where
           let same : get_or round m d ≡ line_at round m = cc (slice_get-get_or round m d lt, slice_get-get_or round m [] lt) in
           subst (λ (l : List ℕ). All (λ p. p < length problem.base.pairings) l) (sym same) own.2.in_range
 
-      module _ (miss : List ℤ) (product : ℤ)
-          (is : (p : ℕ) → p < length problem.base.pairings → weight_at miss p ≡ miss_of problem round p)
-          (product_is : product ≡ rows.product_of weights miss) where
-        product-misses : length weights ≡ length problem.base.pairings
-            → product ≡ product_of (weight_at weights) (miss_of problem round) (length problem.base.pairings)
-        product-misses per_pairing =
-            product_is
-            ∙ ap (λ (n : ℕ). product_of (weight_at weights) (weight_at miss) n) per_pairing
-            ∙ sum_below-same _ _ (length problem.base.pairings) (λ p lt. ap (λ (z : ℤ). weight_at weights p *ℤ z) (is p lt))
+      -- heaviest lines that weigh less than what is needed
+      pub round_outweighed : (miss : List ℤ) (product : ℤ)
+          → ((p : ℕ) → p < length problem.base.pairings → weight_at miss p ≡ miss_of problem round p)
+          → product ≡ rows.product_of weights miss
+          → length weights ≡ length problem.base.pairings → AreSmallWeights weights → product <ℤ pos 0
+          → IsOutweighed problem goal node weights lenses
+      round_outweighed miss product is product_is per_pairing small less =
+          let turned = product-comm (weight_at weights) (miss_of problem round) (length problem.base.pairings) in
+          let weighed =
+          miss-weight problem weights round heavy.lines (λ m lt. (line_passes m (omega (arith, lt, heavy.lines))).2.ascending)
+          (λ m lt. (line_passes m (omega (arith, lt, heavy.lines))).2.in_range) in
+          record {
+            per_pairing = per_pairing;
+            per_member = standard.per_member;
+            small = small;
+            shapes = standard.shapes;
+            bests = map (weight_of weights) round;
+            each = length-map round (weight_of weights) ∙ heavy.lines;
+            best =
+                λ m lens best at got.
+                let inside : m < length round = omega (arith, slice_get_within (map (weight_of weights) round) m best got, length-map round (weight_of weights)) in
+                let here = heavy.each m lens (omega (arith, inside, heavy.lines)) at in
+                let found = slice_get-get_or round m [] inside in
+                let mapped : slice_get (map (weight_of weights) round) m ≡ Some (weight_of weights (line_at round m)) =
+                slice_get-map (weight_of weights) round m ∙ ap (λ (o : Option (List ℕ)). option_map (weight_of weights) o) found in
+                let value : weight_of weights (line_at round m) ≡ best = let e : Some (weight_of weights (line_at round m)) ≡ Some best = sym mapped ∙ got in cc in
+                record {
+                  attained = (line_at round m, here.passes, value);
+                  most = λ line passes. omega (arith, ints, here.most line passes, value);
+                };
+            less = omega (arith, ints, product_is, product-misses weights miss round is per_pairing, turned, weighed, total-map weights round, less);
+          }
 
-        -- heaviest lines that weigh less than what is needed
-        pub round_outweighed : length weights ≡ length problem.base.pairings → AreSmallWeights weights → product <ℤ pos 0
-            → IsOutweighed problem goal node weights lenses
-        round_outweighed per_pairing small less =
-            let turned = product-comm (weight_at weights) (miss_of problem round) (length problem.base.pairings) in
-            let weighed =
-            miss-weight problem weights round heavy.lines (λ m lt. (line_passes m (omega (arith, lt, heavy.lines))).2.ascending)
-            (λ m lt. (line_passes m (omega (arith, lt, heavy.lines))).2.in_range) in
-            record {
-              per_pairing = per_pairing;
-              per_member = standard.per_member;
-              small = small;
-              shapes = standard.shapes;
-              bests = map (weight_of weights) round;
-              each = length-map round (weight_of weights) ∙ heavy.lines;
-              best =
-                  λ m lens best at got.
-                  let inside : m < length round = omega (arith, slice_get_within (map (weight_of weights) round) m best got, length-map round (weight_of weights)) in
-                  let here = heavy.each m lens (omega (arith, inside, heavy.lines)) at in
-                  let found = slice_get-get_or round m [] inside in
-                  let mapped : slice_get (map (weight_of weights) round) m ≡ Some (weight_of weights (line_at round m)) =
-                  slice_get-map (weight_of weights) round m ∙ ap (λ (o : Option (List ℕ)). option_map (weight_of weights) o) found in
-                  let value : weight_of weights (line_at round m) ≡ best = let e : Some (weight_of weights (line_at round m)) ≡ Some best = sym mapped ∙ got in cc in
-                  record {
-                    attained = (line_at round m, here.passes, value);
-                    most = λ line passes. omega (arith, ints, here.most line passes, value);
-                  };
-              less = omega (arith, ints, product-misses per_pairing, turned, weighed, total-map weights round, less);
-            }
+  pub is_round_in_range : (round : List (List ℕ)) → IsRound problem goal node round → All (All (λ p. p < length problem.base.pairings)) round
+  is_round_in_range round is = λ m d lt.
+      let same : get_or round m d ≡ line_at round m = get_or_default round m d [] lt in
+      subst (λ (l : List ℕ). All (λ p. p < length problem.base.pairings) l) (sym same) ((is.each m (omega (arith, lt, is.lines))).passes.in_range)
 
-        -- one round more, which does not weigh less
-        pub evened_more : (count : ℕ) (after : List ℤ) → HaveEvened problem goal node count weights → pos 0 ≤ℤ product
-            → length miss ≡ length problem.base.pairings → AreWithin 200 miss → length after ≡ length weights
-            → ((p : ℕ) → p < length weights → weight_at after p ≡ weight_at weights p -ℤ weight_at miss p)
-            → HaveEvened problem goal node (count + 1) after
-        evened_more count after before not_less row little same taken =
-            let rounds = before.rounds in
-            let turned : product_of (weight_at weights) (miss_of problem round) (length problem.base.pairings) ≡ neg_ℤ (product_of (missed problem rounds) (miss_of problem round) (length problem.base.pairings)) =
-            sum_below-same _ _ (length problem.base.pairings) (λ p lt. ap (λ (z : ℤ). z *ℤ miss_of problem round p) (before.summed.negated p lt))
-            ∙ product-neg (missed problem rounds) (miss_of problem round) (length problem.base.pairings) in
-            let towards : product_of (missed problem rounds) (miss_of problem round) (length problem.base.pairings) ≤ℤ pos 0 =
-            omega (arith, ints, product-misses before.summed.per_pairing, turned, not_less) in
-            let longer = length-append rounds (round ∷ []) in
-            record {
-              rounds = rounds ++ round ∷ [];
-              count_is = longer ∙ ap (λ (n : ℕ). n + 1) before.count_is;
-              each = All-append (IsRound problem goal node) rounds (round ∷ []) before.each (All-cons (IsRound problem goal node) round [] heaviest_is_round (All-nil (IsRound problem goal node)));
-              even = even-append problem rounds round towards before.even;
-              summed = record {
-                per_pairing = same ∙ before.summed.per_pairing;
-                negated =
-                    λ p lt.
-                    omega (
-                      arith,
-                      ints,
-                      taken p (omega (arith, lt, before.summed.per_pairing)),
-                      before.summed.negated p lt,
-                      is p lt,
-                      missed-append problem rounds round p,
-                    );
-                small =
-                    λ p lt.
-                    omega (
-                      arith,
-                      ints,
-                      taken p (omega (arith, lt, same)),
-                      before.summed.small p (omega (arith, lt, same)),
-                      little p (omega (arith, lt, same, row, before.summed.per_pairing)),
-                      longer,
-                    );
-              };
-            }
+  -- one round more, which does not weigh less
+  pub evened_more : (weights miss after : List ℤ) (round : List (List ℕ)) (count : ℕ) → HaveEvened problem goal node count weights
+      → IsHeavyEnough problem goal node weights miss round → length after ≡ length weights
+      → ((p : ℕ) → p < length weights → weight_at after p ≡ weight_at weights p -ℤ weight_at miss p)
+      → HaveEvened problem goal node (count + 1) after
+  evened_more weights miss after round count before enough same taken =
+      let rounds = before.rounds in
+      let turned : product_of (weight_at weights) (miss_of problem round) (length problem.base.pairings) ≡ neg_ℤ (product_of (missed problem rounds) (miss_of problem round) (length problem.base.pairings)) =
+      sum_below-same _ _ (length problem.base.pairings) (λ p lt. ap (λ (z : ℤ). z *ℤ miss_of problem round p) (before.summed.negated p lt))
+      ∙ product-neg (missed problem rounds) (miss_of problem round) (length problem.base.pairings) in
+      let towards : product_of (missed problem rounds) (miss_of problem round) (length problem.base.pairings) ≤ℤ pos 0 =
+      omega (arith, ints, product-misses weights miss round enough.is_miss before.summed.per_pairing, turned, enough.not_less) in
+      let longer = length-append rounds (round ∷ []) in
+      record {
+        rounds = rounds ++ round ∷ [];
+        count_is = longer ∙ ap (λ (n : ℕ). n + 1) before.count_is;
+        each = All-append (IsRound problem goal node) rounds (round ∷ []) before.each (All-cons (IsRound problem goal node) round [] enough.is_round (All-nil (IsRound problem goal node)));
+        even = even-append problem rounds round towards before.even;
+        summed = record {
+          per_pairing = same ∙ before.summed.per_pairing;
+          negated =
+              λ p lt.
+              omega (
+                arith,
+                ints,
+                taken p (omega (arith, lt, before.summed.per_pairing)),
+                before.summed.negated p lt,
+                enough.is_miss p lt,
+                missed-append problem rounds round p,
+              );
+          small =
+              λ p lt.
+              omega (
+                arith,
+                ints,
+                taken p (omega (arith, lt, same)),
+                before.summed.small p (omega (arith, lt, same)),
+                enough.within p (omega (arith, lt, same, enough.per_pairing, before.summed.per_pairing)),
+                longer,
+              );
+        };
+      }
 
   -- no round yet
   pub evened_none : (weights : List ℤ) → weights ≡ replicate (length problem.base.pairings) (pos 0) → HaveEvened problem goal node 0 weights

@@ -58,4 +58,3 @@ other_names list m first second = All-weaker (λ (n : Member). n.name ≡ 77 ∷
 
 pub named : (list : List Member) (m : Member) → list ≡ m ∷ [] → m.name ≡ 77 ∷ 49 ∷ [] → All (λ n. n.name ≡ 77 ∷ 49 ∷ []) list
 named list m is e = subst (All (λ (n : Member). n.name ≡ 77 ∷ 49 ∷ [])) (sym is) (All-from_recursion (λ (n : Member). n.name ≡ 77 ∷ 49 ∷ []) (m ∷ []) (e, tt))
-

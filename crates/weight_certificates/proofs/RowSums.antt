@@ -23,8 +23,8 @@ use Rattle.roster_model.proofs.Lines.{is_flown-below}
 use Rattle.roster_model.proofs.Sums.{product_of, sum_below-one}
 use Rattle.weight_certificates.specs.Rows.{AreWithin}
 
-pub product-small : (x y : ℤ) → unsigned_abs x ≤ 400000 → unsigned_abs y ≤ 400000 → unsigned_abs (x *ℤ y) ≤ 160000000000
-product-small x y p q = omega (arith, unsigned_abs-mul x y, mul-le (unsigned_abs x) (unsigned_abs y) 400000 400000 p q)
+pub product-small : (x y : ℤ) → unsigned_abs x ≤ 2147483647 → unsigned_abs y ≤ 200 → unsigned_abs (x *ℤ y) ≤ 429496729400
+product-small x y p q = omega (arith, unsigned_abs-mul x y, mul-le (unsigned_abs x) (unsigned_abs y) 2147483647 200 p q)
 
 -- an ascending list has each number at most once
 pub count-of_ascending : (xs : List ℕ) (low k : ℕ) → ascends_from low xs ≡ true → count_by (λ q. q == k) xs ≡ cond (is_flown xs k) 1 0
@@ -44,19 +44,19 @@ count-of_ascending (x ∷ xs) low k up =
 pub back : (z : ℤ) → unsigned_abs z ≤ 2 ^ 60 → to_z w64 (of_z w64 z) ≡ z
 back z small = to_z-of_z w64 z (fits_signed_from_abs w64 z (omega arith))
 
-pub product-fits : (x y : ℤ) → unsigned_abs x ≤ 400000 → unsigned_abs y ≤ 400000
+pub product-fits : (x y : ℤ) → unsigned_abs x ≤ 2147483647 → unsigned_abs y ≤ 200
     → FitsSigned w64 (to_z w64 (of_z w64 x) *ℤ to_z w64 (of_z w64 y))
 product-fits x y p q =
     let small = product-small x y p q in
     rw (back x (omega arith), back y (omega arith)) (fits_signed_from_abs w64 (x *ℤ y) (omega arith))
 
-pub product-back : (x y : ℤ) → unsigned_abs x ≤ 400000 → unsigned_abs y ≤ 400000
+pub product-back : (x y : ℤ) → unsigned_abs x ≤ 2147483647 → unsigned_abs y ≤ 200
     → to_z w64 (of_z w64 (to_z w64 (of_z w64 x) *ℤ to_z w64 (of_z w64 y))) ≡ x *ℤ y
 product-back x y p q =
     let small = product-small x y p q in
     rw (back x (omega arith), back y (omega arith)) (back (x *ℤ y) (omega arith))
 
-pub sum-fits : (s x y : ℤ) (k : ℕ) → unsigned_abs s ≤ 160000000000 * k → k < 600 → unsigned_abs x ≤ 400000 → unsigned_abs y ≤ 400000
+pub sum-fits : (s x y : ℤ) (k : ℕ) → unsigned_abs s ≤ 429496729400 * k → k < 600 → unsigned_abs x ≤ 2147483647 → unsigned_abs y ≤ 200
     → FitsSigned w64 (s +ℤ to_z w64 (of_z w64 (to_z w64 (of_z w64 x) *ℤ to_z w64 (of_z w64 y))))
 sum-fits s x y k so_far few p q =
     let small = product-small x y p q in
@@ -65,10 +65,10 @@ sum-fits s x y k so_far few p q =
 -- one turn of the loop of the inner product
 pub record HasProduct (xs ys : List ℤ) (k : ℕ) (sum : ℤ) : Type 0 where
   pub is : sum ≡ product_of (weight_at xs) (weight_at ys) k
-  pub small : unsigned_abs sum ≤ 160000000000 * k
+  pub small : unsigned_abs sum ≤ 429496729400 * k
 
-pub product-turn : (xs ys : List ℤ) (k : ℕ) (s : ℤ) → s ≡ product_of (weight_at xs) (weight_at ys) k → unsigned_abs s ≤ 160000000000 * k → k < 600
-    → unsigned_abs (weight_at xs k) ≤ 400000 → unsigned_abs (weight_at ys k) ≤ 400000
+pub product-turn : (xs ys : List ℤ) (k : ℕ) (s : ℤ) → s ≡ product_of (weight_at xs) (weight_at ys) k → unsigned_abs s ≤ 429496729400 * k → k < 600
+    → unsigned_abs (weight_at xs k) ≤ 2147483647 → unsigned_abs (weight_at ys k) ≤ 200
     → HasProduct xs ys (k + 1) (to_z w64 (of_z w64 (s +ℤ to_z w64 (of_z w64 (to_z w64 (of_z w64 (weight_at xs k)) *ℤ to_z w64 (of_z w64 (weight_at ys k)))))))
 product-turn xs ys k s is so_far few p q =
     let small = product-small (weight_at xs k) (weight_at ys k) p q in
@@ -116,7 +116,6 @@ take-whole (x ∷ xs) (suc i) le = ap (λ l. x ∷ l) (take-whole xs i (omega ar
 pub count-end : (items : List ℕ) (i j : ℕ) (x : ℤ) → length items ≤ i → ascends_from 0 items ≡ true
     → x +ℤ pos (count_by (λ q. q == j) (take i items)) ≡ x +ℤ pos (cond (is_flown items j) 1 0)
 count-end items i j x done up = ap (λ n. x +ℤ pos n) (ap (count_by (λ q. q == j)) (take-whole items i done) ∙ count-of_ascending items 0 j up)
-
 
 -- no pairing needs more than nine
 need-le : (h : Horizon) (pairings : List Pairing) (p : ℕ) → All (IsPairing h) pairings

@@ -3,3 +3,4 @@ pub mod Rows
 pub mod Pricing
 pub mod Evidence
 pub mod Setup
+pub mod Columns

@@ -1,5 +1,5 @@
 -- What a closer by rounds was made for.
-use Rattle.std.specs.Prelude.{◌≡◌, ℕ, ◌≤◌, length}
+use Rattle.std.specs.Prelude.{◌≡◌, ℕ, length}
 use Rattle.roster_model.specs.declared.problem.Problem.{Problem}
 
 -- how many rounds show that a node is open, and how many members and pairings its problems have
@@ -7,10 +7,6 @@ pub record Setup : Type 0 where
   pub rounds : ℕ
   pub members : ℕ
   pub pairings : ℕ
-
-pub record IsSetup (setup : Setup) : Type 0 where
-  pub some_rounds : 1 ≤ setup.rounds
-  pub few_rounds : setup.rounds ≤ 2000
 
 -- a problem with as many members and pairings
 pub record IsMadeFor (setup : Setup) (problem : Problem) : Type 0 where

@@ -4,28 +4,31 @@ ghost use Rattle.weight_certificates.specs.Setup.{IsMadeFor};
 
 use crate::closing::close_node;
 use branch_log::{Closer, Verdict};
-use duty_calendar::Memory;
+use column_pool::Pool;
+use duty_calendar::{List, Memory};
 use roster_model::{Goal, Node, Problem};
 use std::alloc::Global;
 use std::marker::Model;
 
-/// Closes nodes of a problem by rounds of heaviest lines. Contracts see the number of rounds, and those of the members
+/// Closes nodes of a problem by rounds of heaviest lines. Keeps the lines that it finds, and the weights of its last
+/// leaf, which are tried first at the next node. Contracts see the number of rounds, and those of the members
 /// and pairings of the problems that it fits.
 #[derive(Drop)]
 pub struct Rounds {
     rounds: u32,
-    members: u32,
-    pairings: u32,
+    pool: Pool,
+    tried: List<i32>,
 }
 
 impl Model for Rounds {
-    ghost use Rattle.weight_certificates.specs.Setup.{Setup, IsSetup};
+    ghost use Rattle.std.specs.Prelude.{◌≤◌, length};
+    ghost use Rattle.weight_certificates.specs.Setup.{Setup};
 
     ghost Value = { Setup };
 
-    ghost view = { λ r. record { rounds = r.rounds; members = r.members; pairings = r.pairings } };
+    ghost view = { λ r. record { rounds = r.rounds; members = length r.pool.lines; pairings = r.pool.pairings } };
 
-    ghost invariant = { λ r. IsSetup (record { rounds = r.rounds; members = r.members; pairings = r.pairings }) };
+    ghost invariant = { λ r. (1 ≤ r.rounds) × (r.rounds ≤ 2000) };
 }
 
 impl Rounds {
@@ -36,11 +39,10 @@ impl Rounds {
         ensures rounds { IfOk result (λ made. made.rounds ≡ rounds) }
         ensures fits { IfOk result (λ made. IsMadeFor made problem.now) }
     {
-        let _ = alloc;
         Ok(Rounds {
             rounds,
-            members: problem.base.members.len() as u32,
-            pairings: problem.base.pairings.len() as u32,
+            pool: Pool::new(alloc, problem)?,
+            tried: List::new(alloc),
         })
     }
 }
@@ -57,6 +59,14 @@ impl Closer for Rounds {
         goal: &Goal,
         node: &Node,
     ) -> Result<Verdict, Memory> {
-        close_node(alloc, problem, goal, node, self.rounds)
+        close_node(
+            alloc,
+            problem,
+            goal,
+            node,
+            self.rounds,
+            &mut self.pool,
+            &mut self.tried,
+        )
     }
 }

@@ -1,19 +1,22 @@
 //! Closing a node, or showing that it is open.
-ghost use Rattle.std.specs.Prelude.{◌≡◌, ◌≤◌, IfOk};
+ghost use Rattle.std.specs.Prelude.{◌≡◌, ◌≤◌, IfOk, OnOk, length};
 ghost use Rattle.roster_model.specs.Goals.{IsGoal, IsNode};
-ghost use Rattle.roster_model.specs.Weights.{AreSmallWeights, IsSmallWeight};
 ghost use Rattle.branch_log.specs.Honest.{IsHonest};
+ghost use Rattle.weight_certificates.specs.Columns.{AreColumns};
 ghost use Rattle.weight_certificates.specs.Leaves.{AreFitting, HaveCrews};
 ghost use Rattle.weight_certificates.specs.Pricing.{AreStandard};
 
+use crate::columns::Columns;
 use crate::crews::miscrewed;
 use crate::fixed::misfit;
+use crate::keeping::{keep_lines, keep_weights};
 use crate::lists::append;
 use crate::pairs::branch_pair;
-use crate::rosters::is_whole;
 use crate::rounds::{Evidence, price_rounds};
 use crate::shares::Shares;
+use crate::trials::{closing_weights, narrowed};
 use branch_log::Verdict;
+use column_pool::Pool;
 use duty_calendar::{List, Memory};
 use line_lens::standard_lens;
 use roster_model::{Goal, Item, Lens, Node, Problem};
@@ -30,26 +33,6 @@ fn standard_lenses(alloc: Global, problem: &Problem) -> Result<List<Lens>, Memor
     Ok(lenses)
 }
 
-/// The weight in 32 bits.
-fn narrow(weight: i64) -> i32
-    requires small { IsSmallWeight weight }
-    ensures same { result ≡ weight }
-{
-    weight as i32
-}
-
-/// The weights in 32 bits each.
-fn narrowed(alloc: Global, weights: &[i64]) -> Result<List<i32>, Memory>
-    requires small { AreSmallWeights weights.now }
-    ensures same { IfOk result (λ list. list ≡ weights.now) }
-{
-    let mut list = Vec::new(alloc);
-    for weight in weights {
-        list.push(narrow(*weight))?;
-    }
-    Ok(List::from_vec(list))
-}
-
 /// What so many rounds by the standard lenses say of a node that neither crews nor decided lines close.
 fn close_by_rounds(
     alloc: Global,
@@ -57,6 +40,8 @@ fn close_by_rounds(
     goal: &Goal,
     node: &Node,
     count: u32,
+    lenses: List<Lens>,
+    columns: &mut Columns,
 ) -> Result<Verdict, Memory>
     requires goal { IsGoal problem.now goal.now }
     requires node { IsNode problem.now node.now }
@@ -64,12 +49,21 @@ fn close_by_rounds(
     requires few_rounds { count ≤ 2000 }
     requires crews { HaveCrews problem.now node.now }
     requires fitting { AreFitting problem.now goal.now node.now }
+    requires lenses { AreStandard problem.now lenses }
+    requires columns { AreColumns problem.now goal.now node.now columns.old }
     ensures honest { IfOk result (IsHonest problem.now count goal.now node.now) }
+    ensures columns { OnOk result (AreColumns problem.now goal.now node.now columns.new) }
 {
-    let lenses = standard_lenses(alloc, problem)?;
     let mut shares = Shares::new(alloc, problem)?;
     let evidence = price_rounds(
-        alloc, problem, goal, node, lenses.as_slice(), count, &mut shares,
+        alloc,
+        problem,
+        goal,
+        node,
+        lenses.as_slice(),
+        count,
+        columns,
+        &mut shares,
     )?;
     let last = match evidence {
         Evidence::NoLine(member) => {
@@ -80,31 +74,73 @@ fn close_by_rounds(
             let weights = narrowed(alloc, &weights)?;
             return Ok(Verdict::Closed(Item::Weights(weights, lenses)));
         }
+        Evidence::Whole(round) => return Ok(Verdict::Whole(round)),
         Evidence::Even(last) => last,
     };
     let preferred = shares.greatest(problem, node, count);
     let Some((member, pairing)) = branch_pair(problem, node, preferred) else {
         return Ok(Verdict::Whole(last));
     };
-    if is_whole(alloc, problem, goal, node, &last)? {
-        return Ok(Verdict::Whole(last));
-    }
     Ok(Verdict::Branch(member, pairing))
 }
 
-/// What there is to say of the node: a leaf that closes it, a whole roster, or that so many rounds show it open.
+/// The same, where weights that are tried first may close it: those of an earlier leaf, and those of mixes of columns.
+fn close_by_weights(
+    alloc: Global,
+    problem: &Problem,
+    goal: &Goal,
+    node: &Node,
+    count: u32,
+    tried: &[i32],
+    columns: &mut Columns,
+    lenses: List<Lens>,
+) -> Result<Verdict, Memory>
+    requires goal { IsGoal problem.now goal.now }
+    requires node { IsNode problem.now node.now }
+    requires some_rounds { 1 ≤ count }
+    requires few_rounds { count ≤ 2000 }
+    requires crews { HaveCrews problem.now node.now }
+    requires fitting { AreFitting problem.now goal.now node.now }
+    requires lenses { AreStandard problem.now lenses }
+    requires columns { AreColumns problem.now goal.now node.now columns.old }
+    ensures honest { IfOk result (IsHonest problem.now count goal.now node.now) }
+    ensures columns { OnOk result (AreColumns problem.now goal.now node.now columns.new) }
+{
+    let found = closing_weights(
+        alloc,
+        problem,
+        goal,
+        node,
+        lenses.as_slice(),
+        columns,
+        tried,
+    )?;
+    if let Some(weights) = found {
+        return Ok(Verdict::Closed(Item::Weights(weights, lenses)));
+    }
+    close_by_rounds(alloc, problem, goal, node, count, lenses, columns)
+}
+
+/// What there is to say of the node: a leaf that closes it, a whole roster, or that so many rounds show it open. Keeps
+/// the lines and the weights that it finds.
 pub(crate) fn close_node(
     alloc: Global,
     problem: &Problem,
     goal: &Goal,
     node: &Node,
     count: u32,
+    pool: &mut Pool,
+    tried: &mut List<i32>,
 ) -> Result<Verdict, Memory>
     requires goal { IsGoal problem.now goal.now }
     requires node { IsNode problem.now node.now }
     requires some_rounds { 1 ≤ count }
     requires few_rounds { count ≤ 2000 }
+    requires members { length problem.now.base.members ≡ length pool.old.lines }
+    requires pairings { length problem.now.base.pairings ≡ pool.old.pairings }
     ensures honest { IfOk result (IsHonest problem.now count goal.now node.now) }
+    ensures members { length pool.new.lines ≡ length pool.old.lines }
+    ensures pairings { pool.new.pairings ≡ pool.old.pairings }
 {
     if let Some(pairing) = miscrewed(problem, node) {
         return Ok(Verdict::Closed(Item::Count(pairing)));
@@ -112,5 +148,19 @@ pub(crate) fn close_node(
     if let Some(member) = misfit(alloc, problem, goal, node)? {
         return Ok(Verdict::Closed(Item::Fixed(member)));
     }
-    close_by_rounds(alloc, problem, goal, node, count)
+    let lenses = standard_lenses(alloc, problem)?;
+    let mut columns = Columns::gather(alloc, problem, goal, node, lenses.as_slice(), pool)?;
+    let verdict = close_by_weights(
+        alloc,
+        problem,
+        goal,
+        node,
+        count,
+        tried.as_slice(),
+        &mut columns,
+        lenses,
+    )?;
+    keep_lines(alloc, pool, &columns)?;
+    keep_weights(alloc, tried, &verdict)?;
+    Ok(verdict)
 }

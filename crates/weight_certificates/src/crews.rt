@@ -19,9 +19,7 @@ pub(crate) fn need_of(problem: &Problem, pairing: u32) -> u32
 fn has(decisions: &[Decision], member: u32, pairing: u32, flies: bool) -> bool
     ensures value { result ≡ is_decided_as decisions.now member pairing flies }
 {
-    decisions
-        .iter()
-        .any(|d| d.member == member && d.pairing == pairing && d.flies == flies)
+    decisions.iter().any(|d| d.member == member && d.pairing == pairing && d.flies == flies)
 }
 
 /// Whether the node has the decision that the member flies the pairing, or that the member does not.

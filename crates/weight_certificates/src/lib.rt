@@ -4,14 +4,18 @@
 mod best;
 mod closer;
 mod closing;
+mod columns;
 mod crews;
 mod fixed;
+mod keeping;
 mod lists;
+mod mixing;
 mod pairs;
 mod rosters;
 mod rounds;
 mod rows;
 mod shares;
+mod trials;
 
 pub use closer::Rounds;
 

@@ -12,8 +12,8 @@ use roster_model::{Line, Problem};
 pub(crate) fn product(xs: &[i64], ys: &[i64]) -> i64
     requires same { length xs.now ≡ length ys.now }
     requires few { length xs.now ≤ 600 }
-    requires xs_small { AreWithin 400000 xs.now }
-    requires ys_small { AreWithin 400000 ys.now }
+    requires xs_small { AreWithin 2147483647 xs.now }
+    requires ys_small { AreWithin 200 ys.now }
     ensures value { result ≡ product_of xs.now ys.now }
 {
     let mut sum = 0;

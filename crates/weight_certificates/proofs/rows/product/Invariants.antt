@@ -7,5 +7,5 @@ use Rattle.weight_certificates.proofs.rows.product.Given as goal
 abbrev pub invariant-loop-k : goal.invariant-loop-k
 invariant-loop-k l = record {
   is : l.sum ≡ product_of (weight_at l.xs) (weight_at l.ys) l.k;
-  small : unsigned_abs l.sum ≤ 160000000000 * l.k;
+  small : unsigned_abs l.sum ≤ 429496729400 * l.k;
 }
