@@ -1,5 +1,5 @@
 //! June 2026 in Dublin: nodes that are closed, solved, and open.
-ghost use Rattle.std.specs.Prelude.{◌≡◌, ◌≢◌, ◌+◌, ◌<◌, ◌≤◌, ◌++◌, ◌∷◌, [], ℕ, All, IfOk, length};
+ghost use Rattle.std.specs.Prelude.{◌≡◌, ◌≢◌, ◌+◌, ◌<◌, ◌≤◌, ◌++◌, ◌∷◌, [], ℕ, All, IfOk, length, true};
 ghost use Rattle.duty_calendar.specs.Calendar.{month_days};
 ghost use Rattle.duty_calendar.specs.declared.horizon.Horizon.{Horizon as Month};
 ghost use Rattle.duty_calendar.specs.Checks.{AreMembers, ArePairings, IsDuty, IsMember, IsPairing, IsRules};
