@@ -1,0 +1,6 @@
+use Rattle.std.proofs.Common.{◌≡◌, ℕ, ◌<◌, true}
+use Rattle.roster_model.specs.Decided.{is_decided}
+use Rattle.weight_certificates.proofs.fixed.is_decided_line.Given as goal
+
+abbrev pub invariant-loop-pairing : goal.invariant-loop-pairing
+invariant-loop-pairing l = (p : ℕ) → p < l.pairing → is_decided l.node l.member p ≡ true

@@ -1,0 +1,48 @@
+//! Rounds that are whole rosters.
+ghost use Rattle.std.specs.Prelude.{IfOk, IsTrue};
+ghost use Rattle.roster_model.specs.Goals.{IsGoal, RosterMeets};
+ghost use Rattle.roster_model.specs.Rounds.{IsRound};
+ghost use Rattle.branch_log.specs.Honest.{IsWhole};
+
+use crate::fixed::meets_goal;
+use duty_calendar::Memory;
+use line_legality::{RosterFault, complete};
+use roster_model::{Goal, Node, Problem, Roster};
+use std::alloc::Global;
+
+/// Whether each line of the round meets the goal.
+fn all_meet(problem: &Problem, goal: &Goal, node: &Node, round: &Roster) -> bool
+    requires goal { IsGoal problem.now goal.now }
+    requires round { IsRound problem.now goal.now node.now round.now }
+    ensures meet { IsTrue result → RosterMeets problem.now goal.now round.now }
+{
+    let _ = node;
+    for (member, line) in round.as_slice().iter().enumerate() {
+        if !meets_goal(problem, goal, member as u32, line) {
+            return false;
+        }
+    }
+    true
+}
+
+/// Whether the round is a complete roster that meets the goal. Its lines obey the node.
+pub(crate) fn is_whole(
+    alloc: Global,
+    problem: &Problem,
+    goal: &Goal,
+    node: &Node,
+    round: &Roster,
+) -> Result<bool, Memory>
+    requires goal { IsGoal problem.now goal.now }
+    requires round { IsRound problem.now goal.now node.now round.now }
+    ensures whole { IfOk result (λ yes. IsTrue yes → IsWhole problem.now goal.now node.now round.now) }
+{
+    if !all_meet(problem, goal, node, round) {
+        return Ok(false);
+    }
+    match complete(alloc, problem, round) {
+        Ok(()) => Ok(true),
+        Err(RosterFault::NoMemory) => Err(Memory::NoMemory),
+        Err(_fault) => Ok(false),
+    }
+}
