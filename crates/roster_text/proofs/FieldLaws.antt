@@ -1,11 +1,12 @@
 -- A row has four fields: what stands in fields, and how they are counted.
-use Rattle.std.proofs.Common.{◌≡◌, ◌≢◌, ℕ, zero, suc, ◌+◌, ◌/◌, ◌%◌, ◌<◌, ◌≤◌, ◌^◌, Bool, true, false, cond, eqb, List, [], ◌∷◌, ◌++◌, length, map, decimal, Option, refl, sym, ap, subst, ◌∙◌, append_assoc, arith, inl, inr}
+use Rattle.std.proofs.Common.{◌≡◌, ◌≢◌, ℕ, zero, suc, ◌+◌, ◌/◌, ◌%◌, ◌<◌, ◌≤◌, ◌^◌, Bool, true, false, cond, eqb, List, [], ◌∷◌, ◌++◌, length, map, decimal, drop, drop-cons, eq-eqb, get_or, Option, refl, sym, ap, subst, ◌∙◌, append_assoc, arith, inl, inr}
 use Rattle.std.specs.Prelude.{All, slice_get, IsTrue}
 use Rattle.std.specs.List.{list_all}
 use Rattle.std.specs.Int.Digits.{digits_of}
 use Rattle.std.specs.Option.{option_map_or}
 use Rattle.std.proofs.lemmas.Bool.{eqb-true, ne_eqb, false≢true, and_parts}
 use Rattle.std.proofs.lemmas.Fmt.{decimal-digits_of, decimal_digit}
+use Rattle.std.proofs.lemmas.List.{drop_all}
 use Rattle.std.proofs.lemmas.List.Folds.{list_all-append}
 use Rattle.std.proofs.lemmas.Option.{slice_get_cases}
 use Rattle.duty_calendar.specs.Forms.{is_name, is_name_byte}
@@ -248,8 +249,14 @@ fields_filled (b ∷ bs) h = ne_eqb (length (b ∷ bs)) 0 (λ e. absurd (omega (
 
 -- ---- the loop over the bytes of a row
 
-pub fields_fed : (n : ℕ) (b : ℕ) (bs : List ℕ) → eqb b 10 ≡ true → fields_from n (b ∷ bs) ≡ eqb n 3
-fields_fed n b bs h = rw h refl
+pub fields_fed : (n : ℕ) (bytes : List ℕ) (i b : ℕ) → i < length bytes → get_or bytes i 0 ≡ b → b ≡ 10
+    → fields_from n (drop i bytes) ≡ fields_from 0 bytes → eqb n 3 ≡ has_fields bytes
+unfolding has_fields
+fields_fed n bytes i b lt at h so_far =
+    let cons : drop i bytes ≡ b ∷ drop (suc i) bytes = drop-cons bytes i 0 lt ∙ ap (λ (x : ℕ). x ∷ drop (suc i) bytes) at in
+    sym (ap (fields_from n) cons ∙ rw (eq-eqb b 10 h) refl) ∙ so_far
 
-pub fields_on : (n : ℕ) (b : ℕ) (bs : List ℕ) → eqb b 10 ≡ false → fields_from n (b ∷ bs) ≡ fields_from (cond (eqb b 44) (n + 1) n) bs
-fields_on n b bs h = rw h refl
+pub fields_over : (n : ℕ) (bytes : List ℕ) (i : ℕ) → length bytes ≤ i
+    → fields_from n (drop i bytes) ≡ fields_from 0 bytes → false ≡ has_fields bytes
+unfolding has_fields
+fields_over n bytes i le so_far = sym (ap (fields_from n) (drop_all i bytes le)) ∙ so_far

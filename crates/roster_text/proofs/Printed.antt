@@ -16,11 +16,18 @@ names_spaced problem p (q ∷ line) =
     ap (λ (t : List ℕ). pairing_name problem p ++ (32 ∷ t)) (names_spaced problem q line)
     ∙ ap (λ (t : List ℕ). pairing_name problem p ++ t) (sym (flat_map-cons (spaced_name problem) q line))
 
+pub names_put : (problem : Problem) (p : ℕ) (line others out : List ℕ) → line ≡ p ∷ others
+    → (out ++ pairing_name problem p) ++ flat_map (spaced_name problem) others ≡ out ++ names_text problem line
+names_put problem p line others out e =
+    append_assoc out (pairing_name problem p) (flat_map (spaced_name problem) others)
+    ∙ ap (λ (t : List ℕ). out ++ t) (sym (names_spaced problem p others))
+    ∙ ap (λ (t : List ℕ). out ++ names_text problem t) (sym e)
+
 -- the text so far and the rows to come
-pub rows_more : (problem : Problem) (start out row : List ℕ) (roster : List (List ℕ)) (i : ℕ) (line : List ℕ) (whole : List ℕ) → i < length roster → get_or roster i line ≡ line
+pub rows_more : (problem : Problem) (out row : List ℕ) (roster : List (List ℕ)) (i : ℕ) (line : List ℕ) (whole : List ℕ) → i < length roster → get_or roster i line ≡ line
     → row ≡ out ++ row_text problem i line
     → out ++ rows_text problem i (drop i roster) ≡ whole → row ++ rows_text problem (i + 1) (drop (i + 1) roster) ≡ whole
-rows_more problem start out row roster i line whole lt at e so_far =
+rows_more problem out row roster i line whole lt at e so_far =
     let cons : drop i roster ≡ line ∷ drop (i + 1) roster =
     drop-cons roster i line lt ∙ ap (λ (x : List ℕ). x ∷ drop (suc i) roster) at ∙ ap (λ (k : ℕ). line ∷ drop k roster) (sym (add-one i)) in
     ap (λ (t : List ℕ). t ++ rows_text problem (i + 1) (drop (i + 1) roster)) e

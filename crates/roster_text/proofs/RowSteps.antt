@@ -1,22 +1,23 @@
 -- Reading the rows one after the other, as a loop does.
-use Rattle.std.proofs.Common.{◌≡◌, ◌≢◌, ℕ, suc, ◌-◌, ◌+◌, ◌≤◌, ◌<◌, List, [], ◌∷◌, ◌++◌, Result, Ok, Err, refl, sym, ap, ◌∙◌, append_assoc, arith}
+use Rattle.std.proofs.Common.{◌≡◌, ◌≢◌, ℕ, suc, ◌-◌, ◌+◌, ◌≤◌, ◌<◌, List, [], ◌∷◌, ◌++◌, Result, Ok, Err, refl, sym, ap, ◌∙◌, append_assoc, arith, length, Some}
 use Rattle.std.specs.Prelude.{IfOk, IfErr}
 use Rattle.std.proofs.lemmas.List.{append-nil}
 use Rattle.roster_model.specs.declared.problem.Problem.{Problem}
 use Rattle.roster_text.specs.declared.fault.RosterTextCode.{RosterTextCode}
 use Rattle.roster_text.specs.declared.fault.RosterTextCode.TheVariants.{NoMemory}
 use Rattle.roster_text.specs.declared.fault.RosterTextFault.{RosterTextFault}
-use Rattle.roster_text.specs.RosterText.{roster_text, IsRoster}
+use Rattle.roster_text.specs.RosterText.{roster_header, roster_text, IsRoster}
 use Rattle.roster_text.specs.RosterFaults.{HasFault}
+use Rattle.roster_text.specs.NameReading.{word_at}
 use Rattle.roster_text.specs.RowReading.{◌>>=◌, GivesWhole, no_memory, fault_at, row_at, rows_at, roster_of}
 use Rattle.roster_text.proofs.RowLaws.{Read, with_front, whole_front, roster_takes, roster_again}
 use Rattle.roster_text.proofs.FaultLaws.{roster_wrong, fault_found}
 
+abbrev kept : List (List ℕ) → List ℕ → Read
+kept ns rest = Ok (ns, rest)
+
 regroup : (front : List (List ℕ)) (n : List ℕ) (read : Read) → with_front front (read >>= λ x. Ok (n ∷ x.0, x.1)) ≡ with_front (front ++ n ∷ []) read
 regroup front n (Ok x) = ap (λ (ns : List (List ℕ)). kept ns x.1) (sym (append_assoc front (n ∷ []) x.0))
-  where
-    abbrev kept : List (List ℕ) → List ℕ → Read
-    kept ns rest = Ok (ns, rest)
 regroup front n (Err e) = refl
 
 pub rows_on : (problem : Problem) (front : List (List ℕ)) (count i : ℕ) (bytes line after : List ℕ) (total : Read) → i < count → row_at problem i bytes ≡ Ok (line, after)
@@ -41,9 +42,12 @@ unfolding rows_at
 rows_done problem front count i bytes total le so_far =
     let k : count - i ≡ 0 = omega arith in
     sym so_far ∙ ap (λ (m : ℕ). with_front front (rows_at problem i m bytes)) k ∙ ap (λ (ls : List (List ℕ)). kept ls bytes) (append-nil front)
-  where
-    abbrev kept : List (List ℕ) → List ℕ → Read
-    kept ns rest = Ok (ns, rest)
+
+-- a header, and rows that are wrong
+pub rest_wrong : (problem : Problem) (text rest : List ℕ) (fault : RosterTextFault) → Some rest ≡ word_at roster_header text
+    → rows_at problem 0 (length problem.base.members) rest ≡ Err fault → roster_of problem text ≡ Err fault
+unfolding roster_of
+rest_wrong problem text rest fault header rows = rw (sym header, rows) refl
 
 -- ---- what was read
 

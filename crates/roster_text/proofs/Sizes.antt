@@ -21,9 +21,9 @@ use Rattle.roster_text.proofs.NameLaws.{All_weaker}
 
 short : (name : List ℕ) → is_name name ≡ true → length name ≤ 16
 short name h =
-    let t = and_parts (nat_le 1 (length name)) _ h in
-    let s = and_parts (nat_le (length name) 16) (list_all is_name_byte name) t.1 in
-    leb-true (length name) 16 s.0
+    let t = and_parts _ (list_all is_name_byte name) h in
+    let s = and_parts (nat_le 1 (length name)) (nat_le (length name) 16) t.0 in
+    leb-true (length name) 16 s.1
 
 pairing_short : (problem : Problem) (p : ℕ) → length (pairing_name problem p) ≤ 16
 pairing_short problem p =

@@ -3,7 +3,7 @@ ghost use Rattle.std.specs.Prelude.{◌≡◌, ◌++◌, ◌<◌, ◌≤◌, ℕ
 ghost use Rattle.std.specs.List.{flat_map};
 ghost use Rattle.roster_model.specs.Ascending.{is_ascending};
 ghost use Rattle.roster_text.specs.NameReading.{spaced_name};
-ghost use Rattle.roster_text.specs.RosterText.{pairing_name, names_text, sums_text, row_text, rows_text, roster_text, roster_header, longest_text, IsRoster};
+ghost use Rattle.roster_text.specs.RosterText.{pairing_name, member_name, names_text, sums_text, row_text, rows_text, roster_text, longest_text, IsRoster};
 
 use bid_score::{credit, score};
 use duty_calendar::{List, Memory};
@@ -41,6 +41,7 @@ fn put_others(out: &mut List<u8>, problem: &Problem, line: &[u32]) -> Result<(),
 }
 
 /// Appends the names of the pairings of a line.
+#[tactic(auto, using(crate::proofs::Printed::names_put))]
 fn put_names(out: &mut List<u8>, problem: &Problem, line: &[u32]) -> Result<(), Memory>
     requires in_range { All (λ p. p < length problem.now.base.pairings) line.now }
     ensures whole { OnOk result (out.new ≡ out.old ++ names_text problem.now line.now) }
@@ -65,16 +66,24 @@ pub fn put_sums(out: &mut List<u8>, problem: &Problem, member: u32, line: &Line)
     put_bytes(out, b"\n")
 }
 
+/// Appends the name of a member.
+fn put_member(out: &mut List<u8>, problem: &Problem, member: u32) -> Result<(), Memory>
+    requires member { member < length problem.now.base.members }
+    ensures whole { OnOk result (out.new ≡ out.old ++ member_name problem.now member) }
+{
+    let name = &problem.base.members.as_slice()[member as usize].name;
+    put_bytes(out, name.bytes())
+}
+
 /// Appends the row of a member.
 fn put_row(out: &mut List<u8>, problem: &Problem, member: u32, line: &Line) -> Result<(), Memory>
     requires member { member < length problem.now.base.members }
     requires in_range { All (λ p. p < length problem.now.base.pairings) line.now }
     ensures whole { OnOk result (out.new ≡ out.old ++ row_text problem.now member line.now) }
 {
-    let pairings = line.pairings();
-    put_bytes(out, problem.base.members.as_slice()[member as usize].name.bytes())?;
+    put_member(out, problem, member)?;
     put_bytes(out, b",")?;
-    put_names(out, problem, pairings)?;
+    put_names(out, problem, line.pairings())?;
     put_bytes(out, b",")?;
     put_sums(out, problem, member, line)
 }
@@ -101,6 +110,7 @@ fn lines_ascend(roster: &Roster)
 }
 
 /// Appends the header and the rows.
+#[tactic(auto, using(crate::proofs::Printed::is_roster))]
 fn put_roster(out: &mut List<u8>, problem: &Problem, roster: &Roster) -> Result<(), Memory>
     requires lines { length roster.now ≡ length problem.now.base.members }
     requires in_range { All (All (λ p. p < length problem.now.base.pairings)) roster.now }

@@ -2,7 +2,7 @@
 ghost use Rattle.std.specs.Prelude.{◌≡◌, ◌≢◌, ◌<◌, ℕ, List as Sequence, IfOk, IfErr, All, Ok, Err, length};
 ghost use Rattle.std.specs.Option.{option_map};
 ghost use Rattle.roster_text.specs.declared.fault.RosterTextFault.{RosterTextFault as Fault};
-ghost use Rattle.roster_text.specs.NameReading.{member_at};
+ghost use Rattle.roster_text.specs.NameReading.{word_at, member_at};
 ghost use Rattle.roster_text.specs.RosterFaults.{HasFault};
 ghost use Rattle.roster_text.specs.RosterText.{roster_text, roster_header, IsRoster};
 ghost use Rattle.roster_text.specs.RowReading.{Gives, GivesWhole, no_memory, has_fields, fields_at, row_at, rows_at, roster_of, sums_at};
@@ -123,12 +123,19 @@ fn rows_of<'a>(
     Ok((roster, rest))
 }
 
+/// What stands behind the header.
+fn after_header(text: &[u8]) -> Option<&[u8]>
+    ensures value { option_map (λ x. x.now) result ≡ word_at roster_header text.now }
+{
+    text.strip_prefix(b"member,pairings,credit,score\n")
+}
+
 /// The whole text.
 #[tactic(auto, unfolding(crate::specs::RowReading::roster_of))]
 fn whole_of(alloc: Global, problem: &Problem, text: &[u8]) -> Result<Roster, RosterTextFault>
     ensures read { GivesWhole (λ r. r) result (roster_of problem.now text.now) }
 {
-    let Some(rest) = text.strip_prefix(b"member,pairings,credit,score\n") else {
+    let Some(rest) = after_header(text) else {
         return Err(fault_at(1, RosterTextCode::Header));
     };
     let (roster, rest) = rows_of(alloc, problem, rest)?;
