@@ -1,21 +1,21 @@
 -- A text without a roster has one fault: what the reader says, and nothing else.
-use Rattle.std.proofs.Common.{◌≡◌, ◌≢◌, ℕ, zero, suc, ◌+◌, ◌-◌, ◌<◌, ◌≤◌, Bool, true, false, cond, eqb, List, [], ◌∷◌, ◌++◌, length, Option, Some, None, Result, Ok, Err, refl, sym, ap, subst, ◌∙◌, append_assoc, arith, inl, inr}
+use Rattle.std.proofs.Common.{◌≡◌, ◌≢◌, ℕ, zero, suc, ◌+◌, ◌-◌, ◌<◌, Bool, true, false, cond, eqb, List, [], ◌∷◌, ◌++◌, length, Option, Some, None, Result, Ok, Err, refl, sym, ap, subst, ◌∙◌, append_assoc, arith, inl, inr}
 use Rattle.std.specs.List.{AllByRecursion}
 use Rattle.std.proofs.lemmas.Bool.{eqb-true, ne_eqb, false≢true}
-use Rattle.std.proofs.lemmas.List.{append-nil, nil_from_length}
+use Rattle.std.proofs.lemmas.List.{nil_from_length}
 use Rattle.roster_model.specs.declared.problem.Problem.{Problem}
 use Rattle.roster_text.specs.declared.fault.RosterTextCode.{RosterTextCode}
 use Rattle.roster_text.specs.declared.fault.RosterTextCode.TheVariants.{NoMemory, Header, Shape, Member, Pairing, Sums, Rows}
 use Rattle.roster_text.specs.declared.fault.RosterTextFault.{RosterTextFault}
-use Rattle.roster_text.specs.RosterText.{member_name, names_text, sums_text, row_text, rows_text, roster_header, roster_text, IsLine, IsRoster}
-use Rattle.roster_text.specs.RosterFaults.{is_plain, is_field, HasRow, IsWrongRow, IsHeaderFault, IsRowFault, IsSurplus, HasFault}
+use Rattle.roster_text.specs.RosterText.{member_name, names_text, sums_text, row_text, rows_text, roster_header, IsLine, IsTextOf}
+use Rattle.roster_text.specs.RosterFaults.{is_plain, HasRow, IsWrongRow, HasFault}
 use Rattle.roster_text.specs.NameReading.{word_at, member_at, pairings_at}
 use Rattle.roster_text.specs.RowReading.{◌>>=◌, need, at, fault_at, row_of, sums_at, fields_at, has_fields, row_at, rows_at, ended, roster_of}
 use Rattle.roster_text.proofs.Words.{word_takes, word_again, same_front}
 use Rattle.roster_text.proofs.MemberLaws.{member_take, member_again}
 use Rattle.roster_text.proofs.NameLaws.{pairings_take, pairings_again}
 use Rattle.roster_text.proofs.FieldLaws.{member_field, names_field, sums_same, fields_counted, row_counted, fields_filled}
-use Rattle.roster_text.proofs.RowLaws.{Read, ok_is, err_is, sums_take, sums_again, row_takes, row_again, rows_take, rows_behind, rows_again, roster_again}
+use Rattle.roster_text.proofs.RowLaws.{Read, err_is, sums_take, sums_again, row_takes, rows_take, rows_behind, rows_again, roster_again}
 
 abbrev wrong_code : RosterTextCode → Result (List ℕ × List ℕ) RosterTextCode
 wrong_code e = Err e
@@ -105,18 +105,25 @@ module _ (problem : Problem) (m : ℕ) (bytes : List ℕ) (code : RosterTextCode
       by_sums : (rest : List ℕ) (x : List ℕ × List ℕ) (o : Option (List ℕ)) → row.member ≡ member_name problem m → IsLine problem x.0 → row.pairings ≡ names_text problem x.0
           → behind_names ≡ x.1 → sums_at problem m x.0 x.1 ≡ o → with_sums x.0 o ≡ Err code → IsWrongRow problem m bytes code
       by_sums rest x None member line pairings here o e =
-          subst (IsWrongRow problem m bytes) (code_is Sums code e)
-          (row, member, x.0, line, pairings,
-            λ same. none_some (sums_at problem m x.0 x.1) row.rest o (ap (sums_at problem m x.0) (sym here) ∙ sums_found x.0 same))
+          subst (IsWrongRow problem m bytes) (code_is Sums code e) (
+            row,
+            member,
+            x.0,
+            line,
+            pairings,
+            λ same. none_some (sums_at problem m x.0 x.1) row.rest o (ap (sums_at problem m x.0) (sym here) ∙ sums_found x.0 same),
+          )
       by_sums rest x (Some after) member line pairings here o e = absurd cc
 
       by_pairings : (rest : List ℕ) (o : Option (List ℕ × List ℕ)) → row.member ≡ member_name problem m → behind_member ≡ rest → pairings_at problem rest ≡ o
           → with_line problem m o ≡ Err code → IsWrongRow problem m bytes code
       by_pairings rest None member here o e =
-          subst (IsWrongRow problem m bytes) (code_is Pairing code e)
-          (row, member,
+          subst (IsWrongRow problem m bytes) (code_is Pairing code e) (
+            row,
+            member,
             λ line good same. none_some (pairings_at problem rest) (line, behind_names) o
-            (ap (pairings_at problem) (sym here ∙ ap (λ (t : List ℕ). t ++ (44 ∷ behind_names)) same) ∙ pairings_again problem line behind_names good))
+                (ap (pairings_at problem) (sym here ∙ ap (λ (t : List ℕ). t ++ (44 ∷ behind_names)) same) ∙ pairings_again problem line behind_names good),
+          )
       by_pairings rest (Some x) member here o e =
           let t = its_pairings rest x here o in
           by_sums rest x (sums_at problem m x.0 x.1) member t.0 t.1 t.2 refl e
@@ -124,10 +131,11 @@ module _ (problem : Problem) (m : ℕ) (bytes : List ℕ) (code : RosterTextCode
       by_member : (o : Option (List ℕ)) → member_at problem m bytes ≡ o
           → with_member problem m o ≡ Err code → IsWrongRow problem m bytes code
       by_member None o e =
-          subst (IsWrongRow problem m bytes) (code_is Member code e)
-          (row,
+          subst (IsWrongRow problem m bytes) (code_is Member code e) (
+            row,
             λ same. none_some (member_at problem m bytes) behind_member o
-            (ap (member_at problem m) (row.is ∙ ap (λ (t : List ℕ). t ++ (44 ∷ behind_member)) same) ∙ member_again problem m behind_member))
+                (ap (member_at problem m) (row.is ∙ ap (λ (t : List ℕ). t ++ (44 ∷ behind_member)) same) ∙ member_again problem m behind_member),
+          )
       by_member (Some rest) o e =
           let t = its_member rest o in
           by_pairings rest (pairings_at problem rest) t.0 t.1 refl e
@@ -341,9 +349,9 @@ fault_found problem text fault (inr (inr w)) =
 pub one_fault : (problem : Problem) (text : List ℕ) (f g : RosterTextFault) → HasFault problem text f → HasFault problem text g → f ≡ g
 one_fault problem text f g hf hg = err_is (roster_of problem text) f g (fault_found problem text f hf) (fault_found problem text g hg)
 
-pub not_both : (problem : Problem) (text : List ℕ) (f : RosterTextFault) (r : List (List ℕ)) → HasFault problem text f → IsRoster problem r → roster_text problem r ≢ text
-not_both problem text f r h good e =
-    apart (roster_of problem text) r f (ap (roster_of problem) (sym e) ∙ roster_again problem r good) (fault_found problem text f h)
+pub not_both : (problem : Problem) (text : List ℕ) (r : List (List ℕ)) (f : RosterTextFault) → IsTextOf problem text r → ¬ (HasFault problem text f)
+not_both problem text r f good h =
+    apart (roster_of problem text) r f (ap (roster_of problem) good.1 ∙ roster_again problem r good.0) (fault_found problem text f h)
   where
     apart : {A E : Type 0} (o : Result A E) (x : A) (y : E) → o ≡ Ok x → o ≡ Err y → ⊥
     apart o x y e f = let g : Ok x ≡ o = sym e in absurd cc

@@ -1,6 +1,6 @@
 -- A row has four fields: what stands in fields, and how they are counted.
-use Rattle.std.proofs.Common.{◌≡◌, ◌≢◌, ℕ, zero, suc, ◌+◌, ◌/◌, ◌%◌, ◌<◌, ◌≤◌, ◌^◌, Bool, true, false, cond, eqb, List, [], ◌∷◌, ◌++◌, length, map, decimal, drop, drop-cons, eq-eqb, get_or, Option, refl, sym, ap, subst, ◌∙◌, append_assoc, arith, inl, inr}
-use Rattle.std.specs.Prelude.{All, slice_get, IsTrue}
+use Rattle.std.proofs.Common.{◌≡◌, ℕ, zero, suc, ◌+◌, ◌/◌, ◌%◌, ◌<◌, ◌≤◌, ◌^◌, Bool, true, false, cond, eqb, List, [], ◌∷◌, ◌++◌, length, map, decimal, drop, drop-cons, eq-eqb, get_or, Option, refl, sym, ap, subst, ◌∙◌, append_assoc, arith, inl, inr}
+use Rattle.std.specs.Prelude.{All, IsTrue}
 use Rattle.std.specs.List.{list_all}
 use Rattle.std.specs.Int.Digits.{digits_of}
 use Rattle.std.specs.Option.{option_map_or}
@@ -20,7 +20,7 @@ use Rattle.roster_model.proofs.Bounds.{credit_bound, score_bound}
 use Rattle.roster_text.specs.RosterText.{pairing_name, member_name, names_text, sums_text, row_text, IsLine}
 use Rattle.roster_text.specs.RosterFaults.{is_plain, is_field, HasRow}
 use Rattle.roster_text.specs.RowReading.{fields_from, has_fields}
-use Rattle.roster_text.proofs.NameLaws.{HasNames, names_of, All_weaker}
+use Rattle.roster_text.proofs.NameLaws.{names_of, All_weaker}
 use Rattle.roster_text.proofs.Words.{same_front}
 
 -- ---- bytes of fields

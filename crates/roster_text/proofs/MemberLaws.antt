@@ -1,8 +1,8 @@
 -- A member's name and a comma are read where they stand.
-use Rattle.std.proofs.Common.{◌≡◌, ℕ, List, [], ◌∷◌, ◌++◌, Option, Some, refl, ap, ◌∙◌}
+use Rattle.std.proofs.Common.{◌≡◌, ℕ, List, [], ◌∷◌, ◌++◌, Some, refl, ap, ◌∙◌}
 use Rattle.roster_model.specs.declared.problem.Problem.{Problem}
 use Rattle.roster_text.specs.RosterText.{member_name}
-use Rattle.roster_text.specs.NameReading.{◌>>=◌, word_at, member_at}
+use Rattle.roster_text.specs.NameReading.{word_at, member_at}
 use Rattle.roster_text.proofs.Words.{bind_some, word_takes, word_again}
 
 pub member_take : (problem : Problem) (m : ℕ) (bytes rest : List ℕ) → member_at problem m bytes ≡ Some rest → bytes ≡ member_name problem m ++ (44 ∷ rest)

@@ -1,5 +1,5 @@
 -- Names and rows, as loops write them.
-use Rattle.std.proofs.Common.{◌≡◌, ℕ, zero, suc, ◌+◌, ◌<◌, List, [], ◌∷◌, ◌++◌, length, drop, get_or, refl, sym, ap, ◌∙◌, append_assoc, arith, drop-cons, add-one}
+use Rattle.std.proofs.Common.{◌≡◌, ℕ, suc, ◌+◌, ◌<◌, List, [], ◌∷◌, ◌++◌, length, drop, get_or, sym, ap, ◌∙◌, append_assoc, drop-cons, add-one}
 use Rattle.std.specs.Prelude.{All, true}
 use Rattle.std.specs.List.{flat_map, AllByRecursion}
 use Rattle.std.proofs.lemmas.List.{append-nil}
@@ -38,12 +38,13 @@ rows_more problem out row roster i line whole lt at e so_far =
 each_line : (problem : Problem) (roster : List (List ℕ)) → All (λ line. is_ascending line ≡ true) roster → All (All (λ p. p < length problem.base.pairings)) roster
     → AllByRecursion (IsLine problem) roster
 each_line problem [] up known = tt
-each_line problem (line ∷ lines) up known =
-    (record {
-        ascending = All-head (λ (l : List ℕ). is_ascending l ≡ true) line lines up;
-        in_range = All-head (All (λ p. p < length problem.base.pairings)) line lines known;
-      },
-      each_line problem lines (All-tail (λ (l : List ℕ). is_ascending l ≡ true) line lines up) (All-tail (All (λ p. p < length problem.base.pairings)) line lines known))
+each_line problem (line ∷ lines) up known = (
+  record {
+    ascending = All-head (λ (l : List ℕ). is_ascending l ≡ true) line lines up;
+    in_range = All-head (All (λ p. p < length problem.base.pairings)) line lines known;
+  },
+  each_line problem lines (All-tail (λ (l : List ℕ). is_ascending l ≡ true) line lines up) (All-tail (All (λ p. p < length problem.base.pairings)) line lines known),
+)
 
 pub is_roster : (problem : Problem) (roster : List (List ℕ)) → length roster ≡ length problem.base.members → All (λ line. is_ascending line ≡ true) roster
     → All (All (λ p. p < length problem.base.pairings)) roster → IsRoster problem roster

@@ -1,13 +1,13 @@
 -- A roster's rows are read as the lines that they spell, and as no others.
-use Rattle.std.proofs.Common.{◌≡◌, ◌≢◌, ℕ, zero, suc, ◌+◌, ◌-◌, ◌<◌, ◌≤◌, Bool, true, false, cond, eqb, List, [], ◌∷◌, ◌++◌, length, Option, Some, None, Result, Ok, Err, refl, sym, ap, subst, ◌∙◌, append_assoc, arith, inl, inr}
+use Rattle.std.proofs.Common.{◌≡◌, ℕ, zero, suc, ◌+◌, ◌<◌, ◌≤◌, Bool, true, false, cond, eqb, List, [], ◌∷◌, ◌++◌, length, Option, Some, None, Result, Ok, Err, refl, sym, ap, subst, ◌∙◌, append_assoc, arith}
 use Rattle.std.specs.List.{AllByRecursion}
-use Rattle.std.proofs.lemmas.Bool.{eqb-true, false≢true}
+use Rattle.std.proofs.lemmas.Bool.{eqb-true}
 use Rattle.std.proofs.lemmas.List.{append-nil, nil_from_length}
 use Rattle.roster_model.specs.declared.problem.Problem.{Problem}
 use Rattle.roster_text.specs.declared.fault.RosterTextCode.{RosterTextCode}
-use Rattle.roster_text.specs.declared.fault.RosterTextCode.TheVariants.{NoMemory, Header, Shape, Member, Pairing, Sums, Rows}
+use Rattle.roster_text.specs.declared.fault.RosterTextCode.TheVariants.{Header, Shape, Member, Pairing, Sums, Rows}
 use Rattle.roster_text.specs.declared.fault.RosterTextFault.{RosterTextFault}
-use Rattle.roster_text.specs.RosterText.{member_name, names_text, sums_text, row_text, rows_text, roster_header, roster_text, IsLine, IsRoster}
+use Rattle.roster_text.specs.RosterText.{member_name, names_text, sums_text, row_text, rows_text, roster_header, roster_text, IsLine, IsRoster, IsTextOf}
 use Rattle.roster_text.specs.NameReading.{word_at, member_at, pairings_at}
 use Rattle.roster_text.specs.RowReading.{◌>>=◌, need, at, fault_at, sums_at, fields_at, has_fields, row_at, rows_at, ended, roster_of}
 use Rattle.roster_text.proofs.Words.{word_takes, word_again}
@@ -194,6 +194,6 @@ roster_again problem roster good =
     ∙ rows_again problem roster [] good in
     rw read refl
 
-pub one_roster : (problem : Problem) (r s : List (List ℕ)) → IsRoster problem r → IsRoster problem s → roster_text problem r ≡ roster_text problem s → r ≡ s
-one_roster problem r s hr hs e =
-    ok_is (roster_of problem (roster_text problem r)) r s (roster_again problem r hr) (ap (roster_of problem) e ∙ roster_again problem s hs)
+pub one_roster : (problem : Problem) (text : List ℕ) (r s : List (List ℕ)) → IsTextOf problem text r → IsTextOf problem text s → r ≡ s
+one_roster problem text r s hr hs =
+    ok_is (roster_of problem text) r s (ap (roster_of problem) hr.1 ∙ roster_again problem r hr.0) (ap (roster_of problem) hs.1 ∙ roster_again problem s hs.0)

@@ -6,11 +6,11 @@ use Rattle.roster_model.specs.declared.problem.Problem.{Problem}
 use Rattle.roster_text.specs.declared.fault.RosterTextCode.{RosterTextCode}
 use Rattle.roster_text.specs.declared.fault.RosterTextCode.TheVariants.{NoMemory}
 use Rattle.roster_text.specs.declared.fault.RosterTextFault.{RosterTextFault}
-use Rattle.roster_text.specs.RosterText.{roster_header, roster_text, IsRoster}
+use Rattle.roster_text.specs.RosterText.{roster_header, roster_text, IsRoster, IsTextOf}
 use Rattle.roster_text.specs.RosterFaults.{HasFault}
 use Rattle.roster_text.specs.NameReading.{word_at}
 use Rattle.roster_text.specs.RowReading.{◌>>=◌, GivesWhole, no_memory, fault_at, row_at, rows_at, roster_of}
-use Rattle.roster_text.proofs.RowLaws.{Read, with_front, whole_front, roster_takes, roster_again}
+use Rattle.roster_text.proofs.RowLaws.{Read, with_front, roster_takes, roster_again}
 use Rattle.roster_text.proofs.FaultLaws.{roster_wrong, fault_found}
 
 abbrev kept : List (List ℕ) → List ℕ → Read
@@ -67,9 +67,9 @@ is_fault problem text (Ok roster) given = tt
 is_fault problem text (Err e) given = λ some. roster_wrong problem text e (given some)
 
 pub is_only : (problem : Problem) (text : List ℕ) (r : Roster) → GivesWhole (λ r. r) r (roster_of problem text)
-    → (roster : List (List ℕ)) → IsRoster problem roster → text ≡ roster_text problem roster → GivesWhole (λ r. r) r (Ok roster)
-is_only problem text r given roster good e =
-    by r (roster_of problem text) given (ap (roster_of problem) e ∙ roster_again problem roster good)
+    → (roster : List (List ℕ)) → IsTextOf problem text roster → GivesWhole (λ r. r) r (Ok roster)
+is_only problem text r given roster good =
+    by r (roster_of problem text) given (ap (roster_of problem) good.1 ∙ roster_again problem roster good.0)
   where
     by : (r due : Roster) → GivesWhole (λ r. r) r due → due ≡ Ok roster → GivesWhole (λ r. r) r (Ok roster)
     by (Ok x) due given e = sym e ∙ given

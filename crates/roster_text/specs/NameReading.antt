@@ -12,7 +12,8 @@ None >>= f = None
 
 -- what stands behind a word
 abbrev pub word_at : List ℕ → List ℕ → Option (List ℕ)
-word_at word bytes = if bytes_eq (take (length word) bytes) word then Some (drop (length word) bytes) else None
+word_at word bytes =
+    if bytes_eq (take (length word) bytes) word then Some (drop (length word) bytes) else None
 
 -- what stands behind a member's name and a comma
 unfoldable pub member_at : Problem → ℕ → List ℕ → Option (List ℕ)
@@ -28,7 +29,8 @@ unfoldable pub name_at : Problem → ℕ → List ℕ → Option (List ℕ × Bo
 name_at problem p bytes = word_at (pairing_name problem p) bytes >>= after_separator
 
 -- a pairing that stood there or not, and the pairings behind it
-abbrev pub named : ℕ → List ℕ → Option (List ℕ × Bool) → (List ℕ → Option (List ℕ × List ℕ)) → Option (List ℕ × List ℕ)
+abbrev pub named : ℕ → List ℕ → Option (List ℕ × Bool) → (List ℕ → Option (List ℕ × List ℕ))
+    → Option (List ℕ × List ℕ)
 named p bytes None others = others bytes
 named p bytes (Some (rest, true)) others = Some (p ∷ [], rest)
 named p bytes (Some (rest, false)) others = others rest >>= λ x. Some (p ∷ x.0, x.1)
@@ -36,7 +38,8 @@ named p bytes (Some (rest, false)) others = others rest >>= λ x. Some (p ∷ x.
 -- the pairings named in order, from p on
 unfoldable pub names_at : Problem → ℕ → ℕ → List ℕ → Option (List ℕ × List ℕ)
 names_at problem p zero bytes = None
-names_at problem p (suc n) bytes = named p bytes (name_at problem p bytes) (λ rest. names_at problem (p + 1) n rest)
+names_at problem p (suc n) bytes =
+    named p bytes (name_at problem p bytes) (λ rest. names_at problem (p + 1) n rest)
 
 -- no pairing, or some
 abbrev pub line_at : Problem → List ℕ → Option (List ℕ × List ℕ)

@@ -5,7 +5,7 @@ use Rattle.roster_model.specs.declared.problem.Problem.{Problem}
 use Rattle.roster_text.specs.declared.fault.RosterTextCode.{RosterTextCode}
 use Rattle.roster_text.specs.declared.fault.RosterTextCode.TheVariants.{NoMemory, Header, Shape, Member, Pairing, Sums, Rows}
 use Rattle.roster_text.specs.declared.fault.RosterTextFault.{RosterTextFault}
-use Rattle.roster_text.specs.RosterText.{member_name, names_text, sums_text, rows_text, roster_header, IsLine, IsRoster}
+use Rattle.roster_text.specs.RosterText.{member_name, names_text, sums_text, rows_text, roster_header, Text, Lines, IsLine, IsRoster, IsTextOf}
 
 -- a byte of a field: neither a comma nor a line feed
 abbrev pub is_plain : ℕ → Bool
@@ -71,3 +71,15 @@ pub record IsSurplus (problem : Problem) (text : List ℕ) (fault : RosterTextFa
 abbrev pub HasFault : Problem → List ℕ → RosterTextFault → Type 0
 HasFault problem text fault =
     IsHeaderFault text fault ⊎ (IsRowFault problem text fault ⊎ IsSurplus problem text fault)
+
+-- a text has at most one roster, at most one fault, and not both
+abbrev pub HasOneRoster : Problem → Text → Type 0
+HasOneRoster problem text = (r s : Lines) → IsTextOf problem text r → IsTextOf problem text s → r ≡ s
+
+abbrev pub HasOneFault : Problem → Text → Type 0
+HasOneFault problem text =
+    (f g : RosterTextFault) → HasFault problem text f → HasFault problem text g → f ≡ g
+
+abbrev pub HasNotBoth : Problem → Text → Type 0
+HasNotBoth problem text =
+    (r : Lines) (f : RosterTextFault) → IsTextOf problem text r → ¬ (HasFault problem text f)

@@ -27,7 +27,8 @@ sums_text problem m line =
 
 -- the member, the pairings in order, and the sums, separated by commas
 abbrev pub row_text : Problem → ℕ → List ℕ → List ℕ
-row_text problem m line = member_name problem m ++ 44 ∷ names_text problem line ++ 44 ∷ sums_text problem m line
+row_text problem m line =
+    member_name problem m ++ 44 ∷ names_text problem line ++ 44 ∷ sums_text problem m line
 
 -- the rows of the members from m on
 abbrev pub rows_text : Problem → ℕ → List (List ℕ) → List ℕ
@@ -49,6 +50,17 @@ pub record IsLine (problem : Problem) (line : List ℕ) : Type 0 where
 pub record IsRoster (problem : Problem) (roster : List (List ℕ)) : Type 0 where
   pub lines : length roster ≡ length problem.base.members
   pub each : AllByRecursion (IsLine problem) roster
+
+-- a text is that of a roster of the month
+abbrev pub IsTextOf : Problem → List ℕ → List (List ℕ) → Type 0
+IsTextOf problem text roster = IsRoster problem roster × (text ≡ roster_text problem roster)
+
+abbrev pub Text : Type 0
+Text = List ℕ
+
+-- the pairings of each member
+abbrev pub Lines : Type 0
+Lines = List (List ℕ)
 
 -- no text of a roster has more bytes
 abbrev pub longest_text : ℕ

@@ -1,9 +1,8 @@
 //! The pairings that a row names.
 ghost use Rattle.std.specs.Prelude.{◌≡◌, ◌<◌, IfOk, All, length};
 ghost use Rattle.std.specs.Option.{option_map};
-ghost use Rattle.roster_text.specs.declared.fault.RosterTextCode.TheVariants.{Pairing};
-ghost use Rattle.roster_text.specs.NameReading.{after_separator, name_at, names_at, line_at, pairings_at};
-ghost use Rattle.roster_text.specs.RowReading.{need, Gives};
+ghost use Rattle.roster_text.specs.NameReading.{after_separator, name_at};
+ghost use Rattle.roster_text.specs.RowReading.{Gives, names_in, line_in, pairings_in};
 
 use crate::fault::RosterTextCode;
 use duty_calendar::List;
@@ -41,7 +40,7 @@ fn names_of<'a>(
     problem: &Problem,
     bytes: &'a [u8],
 ) -> Result<(List<u32>, &'a [u8]), RosterTextCode>
-    ensures read { Gives (λ x. (x.0, x.1.now)) result (need Pairing (names_at problem.now 0 (length problem.now.base.pairings) bytes.now)) }
+    ensures read { Gives (λ x. (x.0, x.1.now)) result (names_in problem.now bytes.now) }
 {
     let mut line = List::new(alloc);
     let mut rest = bytes;
@@ -66,7 +65,7 @@ fn line_of<'a>(
     problem: &Problem,
     bytes: &'a [u8],
 ) -> Result<(List<u32>, &'a [u8]), RosterTextCode>
-    ensures read { Gives (λ x. (x.0, x.1.now)) result (need Pairing (line_at problem.now bytes.now)) }
+    ensures read { Gives (λ x. (x.0, x.1.now)) result (line_in problem.now bytes.now) }
 {
     let Some((first, rest)) = bytes.split_first() else {
         return Err(RosterTextCode::Pairing);
@@ -84,7 +83,7 @@ fn ordered<'a>(
     problem: &Problem,
     bytes: &'a [u8],
 ) -> Result<(Line, &'a [u8]), RosterTextCode>
-    ensures read { Gives (λ x. (x.0, x.1.now)) result (need Pairing (pairings_at problem.now bytes.now)) }
+    ensures read { Gives (λ x. (x.0, x.1.now)) result (pairings_in problem.now bytes.now) }
 {
     let (pairings, rest) = line_of(alloc, problem, bytes)?;
     let Some(line) = Line::new(pairings) else {
@@ -99,7 +98,7 @@ pub fn pairings_of<'a>(
     problem: &Problem,
     bytes: &'a [u8],
 ) -> Result<(Line, &'a [u8]), RosterTextCode>
-    ensures read { Gives (λ x. (x.0, x.1.now)) result (need Pairing (pairings_at problem.now bytes.now)) }
+    ensures read { Gives (λ x. (x.0, x.1.now)) result (pairings_in problem.now bytes.now) }
     ensures in_range { IfOk result (λ x. All (λ p. p < length problem.now.base.pairings) x.0) }
 {
     ordered(alloc, problem, bytes)

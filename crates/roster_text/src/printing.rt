@@ -1,9 +1,9 @@
 //! Printing a roster's text.
-ghost use Rattle.std.specs.Prelude.{◌≡◌, ◌++◌, ◌<◌, ◌≤◌, ℕ, List as Sequence, IfOk, OnOk, All, true, length};
+ghost use Rattle.std.specs.Prelude.{◌≡◌, ◌++◌, ◌<◌, ◌≤◌, IfOk, OnOk, All, true, length};
 ghost use Rattle.std.specs.List.{flat_map};
 ghost use Rattle.roster_model.specs.Ascending.{is_ascending};
 ghost use Rattle.roster_text.specs.NameReading.{spaced_name};
-ghost use Rattle.roster_text.specs.RosterText.{pairing_name, member_name, names_text, sums_text, row_text, rows_text, roster_text, longest_text, IsRoster};
+ghost use Rattle.roster_text.specs.RosterText.{pairing_name, member_name, names_text, sums_text, row_text, rows_text, roster_text, longest_text, Lines, IsRoster, IsTextOf};
 
 use bid_score::{credit, score};
 use duty_calendar::{List, Memory};
@@ -55,7 +55,12 @@ fn put_names(out: &mut List<u8>, problem: &Problem, line: &[u32]) -> Result<(), 
 
 /// Appends a line's credit and score as they stand in its row, and the line feed.
 #[tactic(auto, unfolding(crate::specs::RosterText::sums_text))]
-pub fn put_sums(out: &mut List<u8>, problem: &Problem, member: u32, line: &Line) -> Result<(), Memory>
+pub fn put_sums(
+    out: &mut List<u8>,
+    problem: &Problem,
+    member: u32,
+    line: &Line,
+) -> Result<(), Memory>
     requires member { member < length problem.now.base.members }
     requires in_range { All (λ p. p < length problem.now.base.pairings) line.now }
     ensures whole { OnOk result (out.new ≡ out.old ++ sums_text problem.now member line.now) }
@@ -128,7 +133,7 @@ pub fn print_roster(alloc: Global, problem: &Problem, roster: &Roster) -> Result
     requires in_range { All (All (λ p. p < length problem.now.base.pairings)) roster.now }
     ensures text { IfOk result (λ text. text ≡ roster_text problem.now roster.now) }
     ensures form { IsRoster problem.now roster.now }
-    ensures again { IfOk result (λ text. (r : Sequence (Sequence ℕ)) → IsRoster problem.now r → text ≡ roster_text problem.now r → r ≡ roster.now) }
+    ensures again { IfOk result (λ text. (r : Lines) → IsTextOf problem.now text r → r ≡ roster.now) }
     ensures short { IfOk result (λ text. length text ≤ longest_text) }
 {
     let mut out = List::new(alloc);

@@ -1,11 +1,11 @@
 //! Reading a roster's text.
-ghost use Rattle.std.specs.Prelude.{◌≡◌, ◌≢◌, ◌<◌, ℕ, List as Sequence, IfOk, IfErr, All, Ok, Err, length};
+ghost use Rattle.std.specs.Prelude.{◌≡◌, ◌≢◌, ◌<◌, IfOk, IfErr, All, Ok, Err, length};
 ghost use Rattle.std.specs.Option.{option_map};
 ghost use Rattle.roster_text.specs.declared.fault.RosterTextFault.{RosterTextFault as Fault};
 ghost use Rattle.roster_text.specs.NameReading.{word_at, member_at};
 ghost use Rattle.roster_text.specs.RosterFaults.{HasFault};
-ghost use Rattle.roster_text.specs.RosterText.{roster_text, roster_header, IsRoster};
-ghost use Rattle.roster_text.specs.RowReading.{Gives, GivesWhole, no_memory, has_fields, fields_at, row_at, rows_at, roster_of, sums_at};
+ghost use Rattle.roster_text.specs.RosterText.{roster_text, roster_header, Lines, IsRoster, IsTextOf};
+ghost use Rattle.roster_text.specs.RowReading.{Gives, GivesWhole, Answers, no_memory, has_fields, sums_at, fields_at, row_at, rows_in, roster_of};
 
 use crate::fault::{RosterTextCode, RosterTextFault, fault_at};
 use crate::names::pairings_of;
@@ -106,7 +106,7 @@ fn rows_of<'a>(
     problem: &Problem,
     bytes: &'a [u8],
 ) -> Result<(Roster, &'a [u8]), RosterTextFault>
-    ensures read { GivesWhole (λ x. (x.0, x.1.now)) result (rows_at problem.now 0 (length problem.now.base.members) bytes.now) }
+    ensures read { GivesWhole (λ x. (x.0, x.1.now)) result (rows_in problem.now bytes.now) }
 {
     let mut roster = List::new(alloc);
     let mut rest = bytes;
@@ -133,7 +133,7 @@ fn after_header(text: &[u8]) -> Option<&[u8]>
 /// The whole text.
 #[tactic(auto, unfolding(crate::specs::RowReading::roster_of))]
 fn whole_of(alloc: Global, problem: &Problem, text: &[u8]) -> Result<Roster, RosterTextFault>
-    ensures read { GivesWhole (λ r. r) result (roster_of problem.now text.now) }
+    ensures read { Answers result (roster_of problem.now text.now) }
 {
     let Some(rest) = after_header(text) else {
         return Err(fault_at(1, RosterTextCode::Header));
@@ -150,8 +150,8 @@ pub fn read_roster(alloc: Global, text: &[u8], problem: &Problem) -> Result<Rost
     ensures read { IfOk result (λ roster. roster_text problem.now roster ≡ text.now) }
     ensures form { IfOk result (IsRoster problem.now) }
     ensures fault { IfErr result (λ fault. fault ≢ no_memory → HasFault problem.now text.now fault) }
-    ensures only { (r : Sequence (Sequence ℕ)) → IsRoster problem.now r → text.now ≡ roster_text problem.now r → GivesWhole (λ r. r) result (Ok r) }
-    ensures first { (f : Fault) → HasFault problem.now text.now f → GivesWhole (λ r. r) result (Err f) }
+    ensures only { (r : Lines) → IsTextOf problem.now text.now r → Answers result (Ok r) }
+    ensures first { (f : Fault) → HasFault problem.now text.now f → Answers result (Err f) }
 {
     whole_of(alloc, problem, text)
 }

@@ -1,4 +1,4 @@
-use Rattle.std.proofs.Common.{◌≡◌, ◌<◌, ℕ, List, Option, Some, None, Result, Ok, Err, length}
+use Rattle.std.proofs.Common.{◌<◌, ℕ, List, Result, Ok, Err, length}
 use Rattle.std.specs.Prelude.{IfOk, All}
 use Rattle.std.specs.Borrow.{Bor}
 use Rattle.roster_model.specs.declared.problem.Problem.{Problem}

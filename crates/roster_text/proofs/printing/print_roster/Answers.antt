@@ -5,10 +5,10 @@ use Rattle.roster_text.proofs.Sizes.{text_short}
 use Rattle.roster_text.proofs.printing.print_roster.Goals as goal
 
 pub returns-clause-again : goal.returns-clause-again
-returns-clause-again c = λ r good e.
+returns-clause-again c = λ r good.
     let whole : c.put_roster.new.out ≡ roster_text c.args.problem.now c.args.roster.now =
     c.in_ok-put_roster.ensures.whole ∙ ap (λ (t : List ℕ). t ++ roster_text c.args.problem.now c.args.roster.now) c.new-out.ensures in
-    one_roster c.args.problem.now r c.args.roster.now good c.put_roster.ensures.form (sym e ∙ whole)
+    one_roster c.args.problem.now c.put_roster.new.out r c.args.roster.now good (c.put_roster.ensures.form, whole)
 
 pub returns-clause-short : goal.returns-clause-short
 returns-clause-short c =

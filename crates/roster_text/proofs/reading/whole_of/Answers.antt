@@ -1,4 +1,3 @@
-use Rattle.std.proofs.Common.{sym}
 use Rattle.std.proofs.lemmas.Result.{err_from_is_err_and}
 use Rattle.roster_text.proofs.RowSteps.{rest_wrong}
 use Rattle.roster_text.proofs.reading.whole_of.Goals as goal
