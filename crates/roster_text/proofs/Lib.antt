@@ -1,0 +1,10 @@
+pub mod FaultLaws
+pub mod FieldLaws
+pub mod MemberLaws
+pub mod NameLaws
+pub mod Printed
+pub mod RowLaws
+pub mod RowSteps
+pub mod Several
+pub mod Sizes
+pub mod Words

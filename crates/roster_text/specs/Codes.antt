@@ -1,0 +1,13 @@
+-- The numbers of faults.
+use Rattle.std.specs.Prelude.{ℕ}
+use Rattle.roster_text.specs.declared.fault.RosterTextCode.{RosterTextCode}
+use Rattle.roster_text.specs.declared.fault.RosterTextCode.TheVariants.{NoMemory, Header, Shape, Member, Pairing, Sums, Rows}
+
+abbrev pub roster_code : RosterTextCode → ℕ
+roster_code NoMemory = 0
+roster_code Header = 1
+roster_code Shape = 2
+roster_code Member = 3
+roster_code Pairing = 4
+roster_code Sums = 5
+roster_code Rows = 6
