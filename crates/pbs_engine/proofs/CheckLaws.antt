@@ -11,6 +11,12 @@ use Rattle.cert_text.specs.declared.fault.CertCode.TheVariants as cert
 use Rattle.cert_text.specs.declared.fault.CertFault.{CertFault}
 use Rattle.cert_text.specs.Lines.{FailsBy}
 use Rattle.cert_text.specs.Reading.{certificate_in}
+use Rattle.cert_checker.specs.declared.refusal.No.{No}
+use Rattle.cert_checker.specs.declared.refusal.No.TheVariants as no
+use Rattle.cert_checker.specs.Awards.{IsFirstNo, NamesFault}
+use Rattle.cert_checker.specs.Stops.{Stops}
+use Rattle.roster_model.specs.Awards.{IsBest, no_goal}
+use Rattle.roster_model.specs.Closing.{Closes}
 use Rattle.pbs_engine.specs.FileNames.{name_of, limit_of}
 use Rattle.pbs_engine.specs.declared.file.File.{File}
 use Rattle.pbs_engine.specs.declared.file.File.TheVariants.{Rules, Pairings, Duties, Legs, Crew, History, Fixed, Bids, Certificate as CertificateFile, Roster}
@@ -21,7 +27,7 @@ use Rattle.pbs_engine.specs.declared.verdict.Verdict.{Verdict}
 use Rattle.pbs_engine.specs.declared.verdict.Verdict.TheVariants as verdict
 use Rattle.pbs_engine.specs.Reading.{◌>>=◌, StopIs, within, text_in, texts_in}
 use Rattle.pbs_engine.specs.Checks.{Given, given_in, NamesProblem, NamesCertificate, NamesAward, NamesAll, JudgesAward, JudgesNone, IsCheck}
-use Rattle.pbs_engine.specs.Stages.{Ends, cert_stop, IsCertificateOf, IsRosterOf}
+use Rattle.pbs_engine.specs.Stages.{Ends, cert_stop, judge_stop, IsCertificateOf, IsRosterOf}
 use Rattle.pbs_engine.specs.Months.{Names}
 
 -- the end of a reading: a file that is missing or too long
@@ -184,6 +190,29 @@ module _ (files : Files) (problem : Problem) (awarded : Awarded) (named : NamesC
         by (Err (stop.ReadFault f)) h = tt
         by (Err (stop.TooLong f)) h = absurd h
         by (Err stop.NoMemory) h = tt
+
+-- a refusal of the judge, as an end
+pub award_end : (problem : Problem) (roster : List (List ℕ)) (proofs : List (List Item)) (why : No)
+    → IsFirstNo problem roster proofs why → (NamesFault why → IsBest problem roster proofs → ⊥) → JudgesAward problem roster proofs (Err (judge_stop why))
+award_end problem roster proofs no.NoMemory first refused = tt
+award_end problem roster proofs (no.Member m why) first refused = record { known = λ (e : no.Member m why ≡ no.NoMemory). absurd cc; first = first; not_best = refused tt }
+award_end problem roster proofs (no.Cover p count) first refused = record { known = λ (e : no.Cover p count ≡ no.NoMemory). absurd cc; first = first; not_best = refused tt }
+award_end problem roster proofs (no.Amount found) first refused = record { known = λ (e : no.Amount found ≡ no.NoMemory). absurd cc; first = first; not_best = refused tt }
+award_end problem roster proofs (no.Item k at why) first refused = record { known = λ (e : no.Item k at why ≡ no.NoMemory). absurd cc; first = first; not_best = refused tt }
+award_end problem roster proofs (no.Left k) first refused = record { known = λ (e : no.Left k ≡ no.NoMemory). absurd cc; first = first; not_best = refused tt }
+award_end problem roster proofs (no.Reason m b) first refused = record { known = λ (e : no.Reason m b ≡ no.NoMemory). absurd cc; first = first; not_best = refused tt }
+award_end problem roster proofs (no.Shown m b) first refused = record { known = λ (e : no.Shown m b ≡ no.NoMemory). absurd cc; first = first; not_best = refused tt }
+
+pub none_end : (problem : Problem) (proof : List Item) (why : No)
+    → Stops problem no_goal 0 proof why → (NamesFault why → Closes problem no_goal [] proof → ⊥) → JudgesNone problem proof (Err (judge_stop why))
+none_end problem proof no.NoMemory stops refused = tt
+none_end problem proof (no.Member m why) stops refused = record { known = λ (e : no.Member m why ≡ no.NoMemory). absurd cc; stops = stops; not_closed = refused tt }
+none_end problem proof (no.Cover p count) stops refused = record { known = λ (e : no.Cover p count ≡ no.NoMemory). absurd cc; stops = stops; not_closed = refused tt }
+none_end problem proof (no.Amount found) stops refused = record { known = λ (e : no.Amount found ≡ no.NoMemory). absurd cc; stops = stops; not_closed = refused tt }
+none_end problem proof (no.Item k at why) stops refused = record { known = λ (e : no.Item k at why ≡ no.NoMemory). absurd cc; stops = stops; not_closed = refused tt }
+none_end problem proof (no.Left k) stops refused = record { known = λ (e : no.Left k ≡ no.NoMemory). absurd cc; stops = stops; not_closed = refused tt }
+none_end problem proof (no.Reason m b) stops refused = record { known = λ (e : no.Reason m b ≡ no.NoMemory). absurd cc; stops = stops; not_closed = refused tt }
+none_end problem proof (no.Shown m b) stops refused = record { known = λ (e : no.Shown m b ≡ no.NoMemory). absurd cc; stops = stops; not_closed = refused tt }
 
 -- a fault of the certificate's reader, as an end
 pub cert_end : (bytes : List ℕ) (fault : CertFault) (c : CertCode) → FailsBy c fault (certificate_in bytes)

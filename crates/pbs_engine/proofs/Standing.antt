@@ -1,5 +1,5 @@
 -- A yes says that the award stands, or that there is no complete roster.
-use Rattle.std.proofs.Common.{◌≡◌, ℕ, Bool, true, false, cond, ltb, List, length, Option, Some, None, Result, Ok, Err, refl, sym, ap, subst, ◌∙◌}
+use Rattle.std.proofs.Common.{◌≡◌, ℕ, Bool, true, false, cond, ltb, List, length, Option, Some, None, Result, Ok, Err, inl, inr, refl, sym, ap, subst, ◌∙◌}
 use Rattle.shelf.specs.Files.{Files, file}
 use Rattle.shelf.specs.Puts.{with_piece, Puts}
 use Rattle.shelf.specs.declared.fault.SinkFault.{SinkFault}
@@ -20,7 +20,7 @@ use Rattle.pbs_engine.specs.Reading.{◌>>=◌, within, text_in, texts_in}
 use Rattle.pbs_engine.specs.Checks.{Given, given_in, AwardIsJudged, NoneIsJudged, IsCheck}
 use Rattle.pbs_engine.specs.Answers.{text_of}
 use Rattle.pbs_engine.specs.Headline.{AwardStands, NoRosterStands, Stands, yes_text}
-use Rattle.pbs_engine.specs.Runs.{Said, IsAnswer, ending}
+use Rattle.pbs_engine.specs.Runs.{Said, Sunk, IsAnswer, ending}
 use Rattle.pbs_engine.proofs.RosterLaws.{roster_takes}
 
 bind_ok : {A B : Type 0} (r : Result A Stop) (f : A → Result B Stop) (y : B) → (r >>= f) ≡ Ok y → (x : A) × (r ≡ Ok x) × (f x ≡ Ok y)
@@ -103,19 +103,20 @@ yes_put : (old : Option (List ℕ)) (shown : Verdict) → with_piece old (text_o
 yes_put old (verdict.Award scores) = refl
 yes_put old verdict.NoRoster = refl
 
-pub yes_stands : (files : Files) (a : Answer) → IsAnswer files a → (before now : ℕ) (old new : Option (List ℕ)) (result : Status) → Said a before now old new result → result ≡ status.Done
-    → (shown : Verdict) × Stands files shown × (new ≡ with_piece old (yes_text shown))
-yes_stands files a told before now old new result said e =
+pub yes_stands : (files : Files) (a : Answer) → IsAnswer files a → (old new : Sunk) (result : Status) → Said a old new result → result ≡ status.Done
+    → (shown : Verdict) × Stands files shown × (new.bytes ≡ with_piece old.bytes (yes_text shown))
+yes_stands files a told old new result (inr said) e = let impossible : status.NoMemory ≡ status.Done = sym said.ends ∙ e in absurd cc
+yes_stands files a told old new result (inl said) e =
     let yes' = is_yes a said.put (sym said.ends ∙ e) in (
       yes'.shown,
       stands files yes'.shown (subst (IsAnswer files) yes'.accepted told),
-      put-whole a yes'.shown yes'.accepted said.put yes'.value yes'.whole said.text ∙ yes_put old yes'.shown,
+      put-whole a yes'.shown yes'.accepted said.put yes'.value yes'.whole said.text ∙ yes_put old.bytes yes'.shown,
     )
   where
-    put-whole : (a : Answer) (shown : Verdict) → a ≡ answer.Accepted shown → (put : Result (Unit {0}) SinkFault) (value : Unit {0}) → put ≡ Ok value → Puts old new (text_of a) put
-        → new ≡ with_piece old (text_of (answer.Accepted shown))
+    put-whole : (a : Answer) (shown : Verdict) → a ≡ answer.Accepted shown → (put : Result (Unit {0}) SinkFault) (value : Unit {0}) → put ≡ Ok value → Puts old.bytes new.bytes (text_of a) put
+        → new.bytes ≡ with_piece old.bytes (text_of (answer.Accepted shown))
     put-whole a shown is put value whole text =
-        let text' : Puts old new (text_of (answer.Accepted shown)) (Ok value) =
-        subst (λ (p : Result (Unit {0}) SinkFault). Puts old new (text_of (answer.Accepted shown)) p) whole
-        (subst (λ (b : Answer). Puts old new (text_of b) put) is text) in
+        let text' : Puts old.bytes new.bytes (text_of (answer.Accepted shown)) (Ok value) =
+        subst (λ (p : Result (Unit {0}) SinkFault). Puts old.bytes new.bytes (text_of (answer.Accepted shown)) p) whole
+        (subst (λ (b : Answer). Puts old.bytes new.bytes (text_of b) put) is text) in
         text'

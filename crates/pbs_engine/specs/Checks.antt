@@ -1,5 +1,5 @@
 -- What `check` finds in the files of a folder.
-use Rattle.std.specs.Prelude.{◌≡◌, ℕ, ◌<◌, List, [], length, Some, None, Result, Ok, Err, ◌⊎◌}
+use Rattle.std.specs.Prelude.{◌≡◌, ◌≢◌, ℕ, ◌<◌, List, [], length, Some, None, Result, Ok, Err, ◌⊎◌}
 use Rattle.shelf.specs.Files.{Files}
 use Rattle.roster_model.specs.declared.problem.Problem.{Problem}
 use Rattle.roster_model.specs.declared.proof.Item.{Item}
@@ -12,6 +12,7 @@ use Rattle.roster_model.specs.Awards.{IsBest, IsGreatest, HasNoRoster, no_goal}
 use Rattle.cert_text.specs.declared.fault.CertFault.{CertFault}
 use Rattle.cert_text.specs.Reading.{certificate_in}
 use Rattle.cert_checker.specs.declared.refusal.No.{No}
+use Rattle.cert_checker.specs.declared.refusal.No.TheVariants.{NoMemory as NoRoom}
 use Rattle.cert_checker.specs.Awards.{IsFirstNo}
 use Rattle.cert_checker.specs.Stops.{Stops}
 use Rattle.pbs_engine.specs.declared.file.File.{File}
@@ -105,6 +106,7 @@ pub record IsAward (problem : Problem) (roster : List (List ℕ)) (proofs : List
 
 -- the judge's first failing test of an award
 pub record IsRefused (problem : Problem) (roster : List (List ℕ)) (proofs : List (List Item)) (why : No) : Type 0 where
+  pub known : why ≢ NoRoom
   pub first : IsFirstNo problem roster proofs why
   pub not_best : IsBest problem roster proofs → ⊥
 
@@ -129,6 +131,7 @@ pub record ShowsNoRoster (problem : Problem) (proof : List Item) : Type 0 where
 
 -- it does not, for this reason
 pub record IsOpen (problem : Problem) (proof : List Item) (why : No) : Type 0 where
+  pub known : why ≢ NoRoom
   pub stops : Stops problem no_goal 0 proof why
   pub not_closed : Closes problem no_goal [] proof → ⊥
 

@@ -3,7 +3,7 @@ use Rattle.std.specs.Prelude.{◌≡◌, ℕ, List, Option, Some, Result, Ok, Er
 use Rattle.shelf.specs.Files.{Files}
 use Rattle.shelf.specs.declared.tally.Tally.{Tally}
 use Rattle.shelf.specs.Tallies.{Rose}
-use Rattle.shelf.specs.Puts.{PutCause, Puts}
+use Rattle.shelf.specs.Puts.{PutCause, PutWants, Puts}
 use Rattle.shelf.specs.declared.fault.SinkFault.{SinkFault}
 use Rattle.shelf.specs.declared.fault.SinkFault.TheVariants.{PutFailed, NoMemory}
 use Rattle.pbs_engine.specs.Answers.{text_of, status_of}
@@ -46,12 +46,30 @@ ending a (Ok x) = status_of a
 ending a (Err PutFailed) = status.WriteFault
 ending a (Err NoMemory) = status.NoMemory
 
--- an answer was said: its text was put, or a front of it where the put did not succeed
-pub record Said (a : Answer) (before now : ℕ) (old new : Option (List ℕ)) (status : Status) : Type 0 where
+-- what a sink shows: how often a put has failed and has found no memory, and the bytes so far where it tells them
+pub record Sunk : Type 0 where
+  pub faults : ℕ
+  pub wants : ℕ
+  pub bytes : Option (List ℕ)
+
+abbrev pub sunk : ℕ → ℕ → Option (List ℕ) → Sunk
+sunk faults wants bytes = record { faults = faults; wants = wants; bytes = bytes }
+
+-- an answer's text was put, or a front of it where the put did not succeed
+pub record WasPut (a : Answer) (old new : Sunk) (result : Status) : Type 0 where
   pub put : Result (Unit {0}) SinkFault
-  pub cause : PutCause before now put
-  pub text : Puts old new (text_of a) put
-  pub ends : status ≡ ending a put
+  pub cause : PutCause old.faults new.faults put
+  pub wanted : PutWants old.wants new.wants put
+  pub text : Puts old.bytes new.bytes (text_of a) put
+  pub ends : result ≡ ending a put
+
+-- there was no memory for its text, and nothing was put
+pub record WasUnsaid (old new : Sunk) (result : Status) : Type 0 where
+  pub same : new ≡ old
+  pub ends : result ≡ status.NoMemory
+
+abbrev pub Said : Answer → Sunk → Sunk → Status → Type 0
+Said a old new result = WasPut a old new result ⊎ WasUnsaid old new result
 
 -- which counts a status speaks of: of the shelf and, as the last two numbers, of the sink
 abbrev pub RunCause : Tally → Tally → ℕ → ℕ → Status → Type 0

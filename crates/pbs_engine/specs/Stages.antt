@@ -7,6 +7,8 @@ use Rattle.cert_text.specs.declared.fault.CertCode.{CertCode}
 use Rattle.cert_text.specs.declared.fault.CertCode.TheVariants as cert
 use Rattle.cert_text.specs.declared.fault.CertFault.{CertFault}
 use Rattle.cert_text.specs.Reading.{certificate_in}
+use Rattle.cert_checker.specs.declared.refusal.No.{No}
+use Rattle.cert_checker.specs.declared.refusal.No.TheVariants as no
 use Rattle.pbs_engine.specs.declared.reading.Texts.{Texts}
 use Rattle.pbs_engine.specs.declared.stop.Stop.{Stop}
 use Rattle.pbs_engine.specs.declared.stop.Stop.TheVariants as stop
@@ -81,6 +83,17 @@ cert_stop cert.Number fault = stop.No (refusal.Certificate fault)
 cert_stop cert.Short fault = stop.No (refusal.Certificate fault)
 cert_stop cert.Trailing fault = stop.No (refusal.Certificate fault)
 cert_stop cert.Limit fault = stop.No (refusal.Certificate fault)
+
+-- the judge's answer as an end
+abbrev pub judge_stop : No → Stop
+judge_stop no.NoMemory = stop.NoMemory
+judge_stop (no.Member m why) = stop.No (refusal.Judged (no.Member m why))
+judge_stop (no.Cover p count) = stop.No (refusal.Judged (no.Cover p count))
+judge_stop (no.Amount found) = stop.No (refusal.Judged (no.Amount found))
+judge_stop (no.Item k at why) = stop.No (refusal.Judged (no.Item k at why))
+judge_stop (no.Left k) = stop.No (refusal.Judged (no.Left k))
+judge_stop (no.Reason m b) = stop.No (refusal.Judged (no.Reason m b))
+judge_stop (no.Shown m b) = stop.No (refusal.Judged (no.Shown m b))
 
 -- the reader of the certificate
 abbrev pub IsCertificateOf : List ℕ → Result Certificate Stop → Type 0

@@ -9,7 +9,7 @@ ghost use Rattle.pbs_engine.specs.declared.file.File.TheVariants.{Certificate as
 ghost use Rattle.pbs_engine.specs.Reading.{HasCause, Finds, text_in, view_texts, AreShort};
 ghost use Rattle.pbs_engine.specs.RosterText.{IsRoster};
 ghost use Rattle.pbs_engine.specs.Checks.{JudgesAward, JudgesNone, NamesCertificate, IsCheck, given_in};
-ghost use Rattle.pbs_engine.specs.Stages.{cert_stop, IsCertificateOf, IsRosterOf, view_given};
+ghost use Rattle.pbs_engine.specs.Stages.{cert_stop, judge_stop, IsCertificateOf, IsRosterOf, view_given};
 
 use crate::file::File;
 use crate::month::read_month;
@@ -54,6 +54,22 @@ fn cert_stop(fault: CertFault) -> Stop
     }
 }
 
+/// The judge's answer as an end.
+fn judge_stop(why: No) -> Stop
+    ensures value { result ≡ judge_stop why }
+{
+    match why {
+        No::NoMemory => Stop::NoMemory,
+        No::Member(_, _)
+        | No::Cover(_, _)
+        | No::Amount(_)
+        | No::Item(_, _, _)
+        | No::Left(_)
+        | No::Reason(_, _)
+        | No::Shown(_, _) => Stop::No(Refusal::Judged(why)),
+    }
+}
+
 /// The certificate of a text.
 fn certificate_of(alloc: Global, bytes: &[u8]) -> Result<Certificate, Stop>
     requires short { length bytes.now ≤ longest }
@@ -79,6 +95,7 @@ fn roster_of(alloc: Global, problem: &Problem, bytes: &[u8]) -> Result<Roster, S
 }
 
 /// The scores of an accepted award, or the judge's first failing test.
+#[tactic(auto, using(crate::proofs::CheckLaws::award_end))]
 fn award_verdict(
     alloc: Global,
     problem: &Problem,
@@ -93,20 +110,19 @@ fn award_verdict(
     let reasons = List::new(alloc);
     match judge(alloc, problem, roster, &reasons, awarded) {
         Ok(()) => Ok(Verdict::Award(scores_of(alloc, problem, roster)?)),
-        Err(No::NoMemory) => Err(Stop::NoMemory),
-        Err(no) => Err(Stop::No(Refusal::Judged(no))),
+        Err(why) => Err(judge_stop(why)),
     }
 }
 
 /// That there is no complete roster, where the proof shows it, or the judge's first failing test.
+#[tactic(auto, using(crate::proofs::CheckLaws::none_end))]
 fn none_verdict(alloc: Global, problem: &Problem, proof: &Proof) -> Result<Verdict, Stop>
     requires limits { is_certificate (OtherForm proof.now) ≡ true }
     ensures judged { JudgesNone problem.now proof.now result }
 {
     match judge_none(alloc, problem, proof) {
         Ok(()) => Ok(Verdict::NoRoster),
-        Err(No::NoMemory) => Err(Stop::NoMemory),
-        Err(no) => Err(Stop::No(Refusal::Judged(no))),
+        Err(why) => Err(judge_stop(why)),
     }
 }
 

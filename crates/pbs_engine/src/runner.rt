@@ -6,7 +6,7 @@ ghost use Rattle.pbs_engine.specs.declared.status.Status.TheVariants.{Done};
 ghost use Rattle.pbs_engine.specs.Headline.{Stands, yes_text};
 ghost use Rattle.pbs_engine.specs.declared.answer.Answer.{Answer as Reply};
 ghost use Rattle.pbs_engine.specs.declared.verdict.Verdict.{Verdict as Shown};
-ghost use Rattle.pbs_engine.specs.Runs.{Answers, Said, RunCause};
+ghost use Rattle.pbs_engine.specs.Runs.{Answers, Said, sunk, RunCause};
 ghost use Rattle.pbs_engine.specs.StatusRows.{RunRow};
 
 use crate::answer::Answer;
@@ -32,8 +32,10 @@ fn answer<S: Shelf>(alloc: Global, words: &[String], shelf: &mut S) -> Answer
 }
 
 /// Puts an answer's text, and says how the run ends.
+#[tactic(auto, using(crate::proofs::Saying::was_put))]
 fn say<O: Sink>(alloc: Global, answer: &Answer, out: &mut O) -> Status
-    ensures said { Said answer.now (O.faults out.old) (O.faults out.new) (O.bytes out.old) (O.bytes out.new) result }
+    ensures said { Said answer.now (sunk (O.faults out.old) (O.wants out.old) (O.bytes out.old))
+        (sunk (O.faults out.new) (O.wants out.new) (O.bytes out.new)) result }
 {
     let Ok(text) = text_of(alloc, answer) else {
         return Status::NoMemory;
@@ -50,7 +52,8 @@ pub fn run<S: Shelf, O: Sink>(alloc: Global, words: &[String], shelf: &mut S, ou
     ensures cause { RunCause (S.tally shelf.old) (S.tally shelf.new) (O.faults out.old) (O.faults out.new) result }
     ensures answered { (a : Reply)
         × Answers (map string_bytes words.now) (S.holds shelf.old) (S.tally shelf.old) (S.tally shelf.new) a
-        × Said a (O.faults out.old) (O.faults out.new) (O.bytes out.old) (O.bytes out.new) result }
+        × Said a (sunk (O.faults out.old) (O.wants out.old) (O.bytes out.old))
+        (sunk (O.faults out.new) (O.wants out.new) (O.bytes out.new)) result }
     ensures rows { (files : Told) → S.holds shelf.old ≡ Some files
         → RunRow (map string_bytes words.now) files (O.bytes out.old) (O.bytes out.new) result }
     ensures stands { (files : Told) → S.holds shelf.old ≡ Some files → result ≡ Done

@@ -4,12 +4,12 @@ use Rattle.pbs_engine.proofs.runner.run.Goals as goal
 
 pub returns-clause-stands : goal.returns-clause-stands
 returns-clause-stands g c = λ files told done.
-    yes_stands files c.answer-told.result (c.answer-told.ensures.answered.told files told) _ _ _ _ c.say.result c.say.ensures.said done
+    yes_stands files c.answer-told.result (c.answer-told.ensures.answered.told files told) _ _ c.say.result c.say.ensures.said done
 
 pub returns-clause-rows : goal.returns-clause-rows
 returns-clause-rows g c = λ files told.
-    run_row _ files _ _ c.answer-told.result _ c.answer-told.ensures.answered.fits (c.answer-told.ensures.answered.told files told) _ _ c.say.ensures.said
+    run_row _ files c.answer-told.result _ _ _ c.answer-told.ensures.answered.fits (c.answer-told.ensures.answered.told files told) c.say.ensures.said
 
 pub returns-clause-cause : goal.returns-clause-cause
 returns-clause-cause g c =
-    run_cause _ _ _ _ c.answer-told.result _ _ c.say.result c.answer-told.ensures.answered.cause c.say.ensures.said
+    run_cause _ _ c.answer-told.result _ _ c.say.result c.answer-told.ensures.answered.cause c.say.ensures.said
