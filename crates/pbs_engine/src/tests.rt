@@ -5,8 +5,7 @@ mod faults;
 mod legality;
 mod months;
 
-use crate::month::read_month;
-use crate::reading::read_texts;
+use month_files::{read_month, read_texts};
 use crate::{Status, run};
 use bid_language::print_bids;
 use certificates::*;
