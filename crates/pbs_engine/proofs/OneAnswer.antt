@@ -80,15 +80,15 @@ abbrev AfterMonth : Files → List ℕ → Problem → Status → Type 0
 AfterMonth files bytes p s = By (λ (fault : CertFault) u. u ≡ status.No) (AfterCertificate files p) (certificate_in bytes) s
 
 -- the inputs have a fault, or name a problem
-record Faulty (given : Given) (s : Status) : Type 0 where
-  fault : InputFault
-  has : HasFault given.inputs fault
-  is : s ≡ status.BadInput
+pub record Faulty (given : Given) (s : Status) : Type 0 where
+  pub fault : InputFault
+  pub has : HasFault given.inputs fault
+  pub is : s ≡ status.BadInput
 
-record Named (files : Files) (given : Given) (s : Status) : Type 0 where
-  problem : Problem
-  names : Names given.inputs problem
-  then' : AfterMonth files given.certificate problem s
+pub record Named (files : Files) (given : Given) (s : Status) : Type 0 where
+  pub problem : Problem
+  pub names : Names given.inputs problem
+  pub then' : AfterMonth files given.certificate problem s
 
 abbrev AfterGiven : Files → Given → Status → Type 0
 AfterGiven files given s = Faulty given s ⊎ Named files given s

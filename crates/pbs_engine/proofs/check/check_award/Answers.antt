@@ -1,7 +1,9 @@
-use Rattle.std.proofs.Common.{ℕ, List, Ok, Err, arith, subst}
+use Rattle.std.proofs.Common.{◌≡◌, ℕ, List, Some, Ok, Err, arith, subst}
 use Rattle.std.proofs.lemmas.List.{nil_from_length}
 use Rattle.std.proofs.lemmas.Result.{err_from_is_err_and}
-use Rattle.pbs_engine.proofs.CheckLaws.{ends_at_shown, ends_at_text}
+use Rattle.pbs_engine.specs.RosterReading.{roster_of}
+use Rattle.pbs_engine.specs.TextReading.{Fails}
+use Rattle.pbs_engine.proofs.CheckLaws.{ends_at_shown, ends_at_text, ends_at_roster, award_accepted, award_refused}
 use Rattle.pbs_engine.proofs.check.check_award.Goals as goal
 
 pub returns-then-len-gt0-clause-told : goal.returns-then-len-gt0-clause-told
@@ -12,3 +14,22 @@ pub returns-in_err-text-clause-told : goal.returns-in_err-text-clause-told
 returns-in_err-text-clause-told g c = λ files told named.
     let p = err_from_is_err_and c.from_residual.result c.from_residual.ensures.1 in
     rw (p.1, p.2) (ends_at_text files c.args.problem.now c.args.awarded.now named (nil_from_length _ (omega arith)) c.in_err-text.field-0.0 (c.in_err-text.ensures.told files told))
+
+pub returns-in_err-roster-clause-told : goal.returns-in_err-roster-clause-told
+returns-in_err-roster-clause-told g c = λ files told named.
+    let p = err_from_is_err_and c.from_residual-in_err-roster.result c.from_residual-in_err-roster.ensures.1 in
+    rw (p.1, p.2) (ends_at_roster files c.args.problem.now c.args.awarded.now named (nil_from_length _ (omega arith)) c.in_ok-text.text.items (c.in_ok-text.ensures.told files told)
+    c.in_err-roster.field-0.0 (subst (λ (b : List ℕ). Fails c.in_err-roster.field-0.0 (roster_of c.args.problem.now b)) c.deref.ensures.value c.in_err-roster.ensures.read))
+
+pub returns-in_err-scores-clause-told : goal.returns-in_err-scores-clause-told
+returns-in_err-scores-clause-told g c = λ files told named.
+    let p = err_from_is_err_and c.from_residual-in_err-scores.result c.from_residual-in_err-scores.ensures.1 in
+    rw (p.1, p.2) (award_refused files c.args.problem.now c.args.awarded.now named (nil_from_length _ (omega arith)) c.in_ok-text.text.items (c.in_ok-text.ensures.told files told)
+    c.in_ok-roster.roster (subst (λ (b : List ℕ). roster_of c.args.problem.now b ≡ Some c.in_ok-roster.roster) c.deref.ensures.value c.in_ok-roster.ensures.read)
+    c.in_err-scores.field-0.0 c.in_err-scores.ensures.first c.in_err-scores.ensures.refused)
+
+pub returns-clause-told : goal.returns-clause-told
+returns-clause-told g c = λ files told named.
+    award_accepted files c.args.problem.now c.args.awarded.now named (nil_from_length _ (omega arith)) c.in_ok-text.text.items (c.in_ok-text.ensures.told files told)
+    c.in_ok-roster.roster (subst (λ (b : List ℕ). roster_of c.args.problem.now b ≡ Some c.in_ok-roster.roster) c.deref.ensures.value c.in_ok-roster.ensures.read)
+    c.in_ok-scores.scores c.in_ok-scores.ensures.accepted c.in_ok-scores.ensures.greatest c.in_ok-scores.ensures.value
