@@ -1,7 +1,8 @@
 //! Reading the files of a month from a shelf.
-ghost use Rattle.std.specs.Prelude.{◌≡◌, ◌≤◌, IfOk, length};
+ghost use Rattle.std.specs.Prelude.{◌≡◌, ◌≤◌, ◌++◌, IfOk, length};
 ghost use Rattle.month_files.specs.FileNames.{limit_of};
 ghost use Rattle.std.specs.Option.{ForSome};
+ghost use Rattle.month_files.specs.Handing.{with_text, input_texts};
 ghost use Rattle.month_files.specs.Reading.{HasCause, Finds, text_in, texts_in, view_texts, AreShort};
 
 use crate::file::File;
@@ -28,6 +29,7 @@ pub fn read_file<S: Shelf>(alloc: Global, shelf: &mut S, file: File) -> Result<V
     ensures limit { IfOk result (λ v. length v.items ≤ limit_of file) }
     ensures told { ForSome (S.holds shelf.old) (λ files. Finds (λ v. v.items) result (text_in files file)) }
     ensures kept { S.holds shelf.new ≡ S.holds shelf.old }
+    ensures logged { S.log shelf.new ≡ with_text (S.log shelf.old) file result }
 {
     match shelf.read(alloc, file.name(), file.limit()) {
         Ok(bytes) => Ok(bytes),
@@ -46,6 +48,7 @@ pub fn read_texts<S: Shelf>(alloc: Global, shelf: &mut S) -> Result<Texts, Unrea
     ensures told { ForSome (S.holds shelf.old) (λ files. Finds view_texts result (texts_in files)) }
     ensures short { IfOk result (λ t. AreShort (view_texts t)) }
     ensures kept { S.holds shelf.new ≡ S.holds shelf.old }
+    ensures logged { IfOk result (λ t. S.log shelf.new ≡ S.log shelf.old ++ input_texts (view_texts t)) }
 {
     let rules = read_file(alloc, shelf, File::Rules)?;
     let pairings = read_file(alloc, shelf, File::Pairings)?;

@@ -4,6 +4,7 @@ pub mod RosterLaws
 pub mod Saying
 pub mod Texts
 pub mod CheckLaws
+pub mod HandedLaws
 pub mod OneAnswer
 pub mod Standing
 pub mod Rows

@@ -2,6 +2,7 @@
 -- nothing leaves.
 use Rattle.std.proofs.Common.{◌≡◌, ℕ, Bool, true, false, cond, ltb, List, length, Option, Some, None, Result, Ok, Err, inl, inr, refl, sym, ap, subst, ◌∙◌}
 use Rattle.shelf.specs.Files.{Files, file}
+use Rattle.shelf.specs.Logs.{Texts, holding}
 use Rattle.shelf.specs.Puts.{with_piece, Puts}
 use Rattle.shelf.specs.declared.fault.SinkFault.{SinkFault}
 use Rattle.shelf.specs.declared.fault.SinkFault.TheVariants.{PutFailed, NoMemory}
@@ -22,8 +23,9 @@ use Rattle.pbs_engine.specs.declared.verdict.Verdict.{Verdict}
 use Rattle.pbs_engine.specs.declared.verdict.Verdict.TheVariants as verdict
 use Rattle.pbs_engine.specs.Check.{Given, given_in, AwardIsAccepted, NoneIsAccepted, IsAccepted}
 use Rattle.pbs_engine.specs.CheckTexts.{yes_text}
+use Rattle.pbs_engine.specs.Handed.{FromTexts}
 use Rattle.pbs_engine.specs.Headline.{AwardStands, NoRosterStands, Stands}
-use Rattle.pbs_engine.specs.Outcomes.{asked_by, text_of, IsRight, written_by}
+use Rattle.pbs_engine.specs.Outcomes.{asked_by, text_of, IsRight, IsHandedIn, written_by}
 use Rattle.pbs_engine.specs.Runs.{Says, Sunk, Shelved, ComesTo, ending}
 use Rattle.pbs_engine.specs.Words.{WritesNothing}
 use Rattle.pbs_engine.specs.Writes.{Leaves}
@@ -111,6 +113,17 @@ yes_stands files o right old new result (inr said) e = let impossible : status.N
 yes_stands files o right old new result (inl said) e =
     let yes' = is_yes o said.put old.bytes new.bytes said.text (sym said.ends ∙ e) in
     (yes'.shown, stands files yes'.shown (subst (IsRight files) yes'.accepted right), yes'.put)
+
+pub yes_stands_read : (old new : Texts) (o : Outcome) → IsHandedIn old new o → (before after : Sunk) (result : Status) → Says o before after result → result ≡ status.Done
+    → (shown : Verdict) × FromTexts old new (λ files. Stands files shown) × (after.bytes ≡ with_piece before.bytes (yes_text shown))
+yes_stands_read old new o read before after result (inr said) e = let impossible : status.NoMemory ≡ status.Done = sym said.ends ∙ e in absurd cc
+yes_stands_read old new o read before after result (inl said) e =
+    let yes' = is_yes o said.put before.bytes after.bytes said.text (sym said.ends ∙ e) in
+    let from : FromTexts old new (λ files. IsAccepted files yes'.shown) = subst (IsHandedIn old new) yes'.accepted read in (
+      yes'.shown,
+      record { texts = from.texts; logged = from.logged; count = from.count; names = from.names; found = stands (holding from.texts) yes'.shown from.found },
+      yes'.put,
+    )
 
 -- ---- what is left
 

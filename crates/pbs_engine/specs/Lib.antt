@@ -9,6 +9,7 @@ pub mod MonthEnds
 pub mod CheckEnds
 pub mod CheckTexts
 pub mod Check
+pub mod Handed
 pub mod Outcomes
 pub mod Runs
 pub mod Headline

@@ -2,6 +2,7 @@
 -- it takes of the files and of the shelf's counts. Each command has its line in each of these definitions.
 use Rattle.std.specs.Prelude.{◌≡◌, ℕ, List, codes, Option, Some, None}
 use Rattle.shelf.specs.Files.{Files}
+use Rattle.shelf.specs.Logs.{Texts}
 use Rattle.shelf.specs.declared.tally.Tally.{Tally}
 use Rattle.pbs_engine.specs.declared.command.Command.{Command}
 use Rattle.pbs_engine.specs.declared.command.Command.TheVariants as command
@@ -11,6 +12,7 @@ use Rattle.pbs_engine.specs.declared.status.Status.{Status}
 use Rattle.pbs_engine.specs.declared.status.Status.TheVariants as status
 use Rattle.pbs_engine.specs.Check.{IsCheck}
 use Rattle.pbs_engine.specs.CheckTexts.{check_status, check_text, CheckCause}
+use Rattle.pbs_engine.specs.Handed.{IsHanded}
 use Rattle.pbs_engine.specs.Lines.{line}
 use Rattle.pbs_engine.specs.Writes.{Written, nothing_written}
 
@@ -38,6 +40,11 @@ written_by (outcome.Check end) = nothing_written
 abbrev pub IsRight : Files → Outcome → Type 0
 IsRight files outcome.Usage = Unit {0}
 IsRight files (outcome.Check end) = IsCheck files end
+
+-- the outcome is right of the texts that its reads handed in
+abbrev pub IsHandedIn : Texts → Texts → Outcome → Type 0
+IsHandedIn old new outcome.Usage = new ≡ old
+IsHandedIn old new (outcome.Check end) = IsHanded old new end
 
 -- the outcome comes with this change of the shelf's counts
 abbrev pub HasCause : Tally → Tally → Outcome → Type 0

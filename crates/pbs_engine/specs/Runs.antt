@@ -1,25 +1,27 @@
 -- What a run does: it comes to an outcome, and puts its text.
 use Rattle.std.specs.Prelude.{◌≡◌, ℕ, List, Option, Some, Result, Ok, Err, ◌⊎◌}
 use Rattle.shelf.specs.Files.{Files}
+use Rattle.shelf.specs.Logs.{Texts}
 use Rattle.shelf.specs.declared.tally.Tally.{Tally}
 use Rattle.shelf.specs.Tallies.{Rose}
 use Rattle.shelf.specs.Puts.{PutCause, PutWants, Puts}
 use Rattle.shelf.specs.declared.fault.SinkFault.{SinkFault}
 use Rattle.shelf.specs.declared.fault.SinkFault.TheVariants.{PutFailed, NoMemory}
-use Rattle.pbs_engine.specs.Outcomes.{asked_by, status_of, text_of, written_by, IsRight, HasCause}
+use Rattle.pbs_engine.specs.Outcomes.{asked_by, status_of, text_of, written_by, IsRight, IsHandedIn, HasCause}
 use Rattle.pbs_engine.specs.Words.{command_in}
 use Rattle.pbs_engine.specs.Writes.{Leaves}
 use Rattle.pbs_engine.specs.declared.outcome.Outcome.{Outcome}
 use Rattle.pbs_engine.specs.declared.status.Status.{Status}
 use Rattle.pbs_engine.specs.declared.status.Status.TheVariants as status
 
--- what a shelf shows: its files where it tells them, and its counts
+-- what a shelf shows: its files where it tells them, its counts, and what reads have handed in
 pub record Shelved : Type 0 where
   pub files : Option Files
   pub tally : Tally
+  pub log : Texts
 
-abbrev pub shelved : Option Files → Tally → Shelved
-shelved files tally = record { files = files; tally = tally }
+abbrev pub shelved : Option Files → Tally → Texts → Shelved
+shelved files tally log = record { files = files; tally = tally; log = log }
 
 -- what a sink shows: how often a put has failed and has found no memory, and the bytes so far where it tells them
 pub record Sunk : Type 0 where
@@ -30,10 +32,11 @@ pub record Sunk : Type 0 where
 abbrev pub sunk : ℕ → ℕ → Option (List ℕ) → Sunk
 sunk faults wants bytes = record { faults = faults; wants = wants; bytes = bytes }
 
--- the outcome is one of the command that the words are, it is right where files are told, and files and counts
--- are left as it says
+-- the outcome is one of the command that the words are, it is right of the texts that reads handed in, and of files
+-- where they are told, and files and counts are left as it says
 pub record ComesTo (words : List (List ℕ)) (old new : Shelved) (o : Outcome) : Type 0 where
   pub asked : command_in words ≡ asked_by o
+  pub handed : IsHandedIn old.log new.log o
   pub right : (files : Files) → old.files ≡ Some files → IsRight files o
   pub left : Leaves old.files new.files (written_by o)
   pub cause : HasCause old.tally new.tally o

@@ -1,5 +1,5 @@
 //! The command `check`.
-ghost use Rattle.std.specs.Prelude.{◌≡◌, ◌≤◌, true, [], IfOk, IfErr, OnOk, length};
+ghost use Rattle.std.specs.Prelude.{◌≡◌, ◌≤◌, ◌++◌, true, [], IfOk, IfErr, OnOk, length};
 ghost use Rattle.std.specs.Option.{ForSome};
 ghost use Rattle.cert_checker.specs.Awards.{IsFirstNo, NamesFault};
 ghost use Rattle.cert_text.specs.Limits.{is_certificate};
@@ -9,8 +9,10 @@ ghost use Rattle.month_files.specs.Reading.{HasCause, Finds, view_texts, AreShor
 ghost use Rattle.roster_model.specs.Awards.{IsBest, IsGreatest};
 ghost use Rattle.roster_model.specs.Rosters.{scores_of};
 ghost use Rattle.roster_model.specs.declared.award.Certificate.TheVariants.{Award as AwardForm};
+ghost use Rattle.shelf.specs.Logs.{Texts as Entries};
 ghost use Rattle.pbs_engine.specs.Check.{IsCheck, NamesCertificate, given_in, view_given};
 ghost use Rattle.pbs_engine.specs.CheckTexts.{CheckCause};
+ghost use Rattle.pbs_engine.specs.Handed.{given_texts, IsHanded, HandedIn};
 ghost use Rattle.pbs_engine.specs.RosterText.{IsRoster};
 
 use crate::check_stop::CheckStop;
@@ -32,6 +34,8 @@ fn read_given<S: Shelf>(alloc: Global, shelf: &mut S) -> Result<(Texts, Vec<u8>)
     ensures short { IfOk result (λ x. AreShort (view_texts x.0)) }
     ensures limit { IfOk result (λ x. length x.1.items ≤ limit_of CertificateFile) }
     ensures kept { S.holds shelf.new ≡ S.holds shelf.old }
+    ensures logged { IfOk result
+        (λ x. S.log shelf.new ≡ S.log shelf.old ++ given_texts (view_given x)) }
 {
     let texts = read_texts(alloc, shelf)?;
     let certificate = read_file(alloc, shelf, File::Certificate)?;
@@ -76,6 +80,8 @@ fn check_award<S: Shelf>(
     ensures told { ForSome (S.holds shelf.old)
         (λ files. NamesCertificate files problem.now (AwardForm awarded.now) → IsCheck files result) }
     ensures kept { S.holds shelf.new ≡ S.holds shelf.old }
+    ensures handed { (old : Entries) → HandedIn old (S.log shelf.old) problem.now (AwardForm awarded.now)
+        → IsHanded old (S.log shelf.new) result }
 {
     if awarded.shown.len() > 0 {
         return Err(CheckStop::NotYet);
@@ -92,6 +98,7 @@ pub fn check<S: Shelf>(alloc: Global, shelf: &mut S) -> Result<Verdict, CheckSto
     ensures cause { CheckCause (S.tally shelf.old) (S.tally shelf.new) result }
     ensures told { ForSome (S.holds shelf.old) (λ files. IsCheck files result) }
     ensures kept { S.holds shelf.new ≡ S.holds shelf.old }
+    ensures handed { IsHanded (S.log shelf.old) (S.log shelf.new) result }
 {
     let (texts, certificate) = read_given(alloc, shelf)?;
     let problem = read_month(alloc, &texts)?;

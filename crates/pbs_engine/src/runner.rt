@@ -5,6 +5,7 @@ ghost use Rattle.shelf.specs.Puts.{with_piece};
 ghost use Rattle.pbs_engine.specs.declared.status.Status.TheVariants.{Done};
 ghost use Rattle.pbs_engine.specs.declared.verdict.Verdict.{Verdict as Shown};
 ghost use Rattle.pbs_engine.specs.CheckTexts.{yes_text};
+ghost use Rattle.pbs_engine.specs.Handed.{FromTexts};
 ghost use Rattle.pbs_engine.specs.Headline.{Stands};
 ghost use Rattle.pbs_engine.specs.Rows.{IsQuiet, Rows};
 ghost use Rattle.pbs_engine.specs.Runs.{shelved, sunk, ComesTo, Says, Runs, RunCause};
@@ -20,7 +21,8 @@ use std::alloc::Global;
 /// What the words ask of the shelf.
 fn outcome<S: Shelf>(alloc: Global, words: &[String], shelf: &mut S) -> Outcome
     ensures comes { ComesTo (map string_bytes words.now)
-        (shelved (S.holds shelf.old) (S.tally shelf.old)) (shelved (S.holds shelf.new) (S.tally shelf.new)) result }
+        (shelved (S.holds shelf.old) (S.tally shelf.old) (S.log shelf.old))
+        (shelved (S.holds shelf.new) (S.tally shelf.new) (S.log shelf.new)) result }
 {
     match Command::from_words(words) {
         None => Outcome::Usage,
@@ -48,13 +50,17 @@ fn say<O: Sink>(alloc: Global, outcome: &Outcome, out: &mut O) -> Status
 pub fn run<S: Shelf, O: Sink>(alloc: Global, words: &[String], shelf: &mut S, out: &mut O) -> Status
     ensures cause { RunCause (S.tally shelf.old) (S.tally shelf.new) (O.faults out.old) (O.faults out.new) result }
     ensures runs { Runs (map string_bytes words.now)
-        (shelved (S.holds shelf.old) (S.tally shelf.old)) (shelved (S.holds shelf.new) (S.tally shelf.new))
+        (shelved (S.holds shelf.old) (S.tally shelf.old) (S.log shelf.old))
+        (shelved (S.holds shelf.new) (S.tally shelf.new) (S.log shelf.new))
         (sunk (O.faults out.old) (O.wants out.old) (O.bytes out.old))
         (sunk (O.faults out.new) (O.wants out.new) (O.bytes out.new)) result }
     ensures rows { (files : Told) → S.holds shelf.old ≡ Some files → Rows (map string_bytes words.now) files
         (IsQuiet (S.tally shelf.old) (S.tally shelf.new) (O.faults out.old) (O.faults out.new)) result }
     ensures stands { (files : Told) → S.holds shelf.old ≡ Some files → result ≡ Done
         → (shown : Shown) × Stands files shown × (O.bytes out.new ≡ with_piece (O.bytes out.old) (yes_text shown)) }
+    ensures stands_read { result ≡ Done → (shown : Shown)
+        × FromTexts (S.log shelf.old) (S.log shelf.new) (λ files. Stands files shown)
+        × (O.bytes out.new ≡ with_piece (O.bytes out.old) (yes_text shown)) }
     ensures kept { WritesNothing (command_in (map string_bytes words.now)) → S.holds shelf.new ≡ S.holds shelf.old }
 {
     let told = outcome(alloc, words, shelf);

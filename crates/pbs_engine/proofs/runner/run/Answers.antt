@@ -1,5 +1,5 @@
 use Rattle.pbs_engine.proofs.Rows.{run_cause, run_rows}
-use Rattle.pbs_engine.proofs.Standing.{yes_stands, nothing_left}
+use Rattle.pbs_engine.proofs.Standing.{yes_stands, yes_stands_read, nothing_left}
 use Rattle.pbs_engine.proofs.runner.run.Goals as goal
 
 pub returns-clause-cause : goal.returns-clause-cause
@@ -19,3 +19,7 @@ returns-clause-stands g c = λ files told done.
 
 pub returns-clause-kept : goal.returns-clause-kept
 returns-clause-kept g c = λ writes. nothing_left _ _ _ c.outcome-told.result c.outcome-told.ensures.comes
+
+pub returns-clause-stands_read : goal.returns-clause-stands_read
+returns-clause-stands_read g c = λ done.
+    yes_stands_read _ _ c.outcome-told.result c.outcome-told.ensures.comes.handed _ _ c.say.result c.say.ensures.says done
