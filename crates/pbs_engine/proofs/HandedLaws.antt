@@ -5,7 +5,7 @@ use Rattle.std.proofs.lemmas.Cmp.{nat_list_cmp_total}
 use Rattle.std.specs.Cmp.Lexicographic.{slice_cmp}
 use Rattle.std.specs.FinMap.{find, get-from_entries}
 use Rattle.shelf.specs.Files.{Files, file}
-use Rattle.shelf.specs.Logs.{Texts, holding}
+use Rattle.shelf.specs.Logs.{Entries, holding}
 use Rattle.roster_model.specs.declared.problem.Problem.{Problem}
 use Rattle.roster_model.specs.declared.award.Certificate.{Certificate}
 use Rattle.month_files.specs.declared.file.File.{File}
@@ -53,7 +53,7 @@ within_limit f bytes le = by (ltb (limit_of f) (length bytes)) (not_over (limit_
     by true e = absurd cc
     by false e = refl
 
-pub held : (texts : Texts) (f : File) (bytes : List ℕ) → find (slice_cmp nat_cmp) (name_of f) texts ≡ Some bytes → length bytes ≤ limit_of f → text_in (holding texts) f ≡ Ok bytes
+pub held : (texts : Entries) (f : File) (bytes : List ℕ) → find (slice_cmp nat_cmp) (name_of f) texts ≡ Some bytes → length bytes ≤ limit_of f → text_in (holding texts) f ≡ Ok bytes
 held texts f bytes e le =
     let found : file (holding texts) (name_of f) ≡ Some bytes = get-from_entries nat_list_cmp_total _ _ ∙ e in
     ap (within f) found ∙ within_limit f bytes le
@@ -63,7 +63,7 @@ held texts f bytes e le =
 then_ok : {A B : Type 0} (r : Result A Unread) (f : A → Result B Unread) (x : A) (y : Result B Unread) → r ≡ Ok x → f x ≡ y → (r >>= f) ≡ y
 then_ok r f x y e h = subst (λ q. (q >>= f) ≡ y) (sym e) h
 
-module _ (given : Given) (rest : Texts) (short : AreShort given.inputs) (limit : length given.certificate ≤ limit_of CertificateFile) where
+module _ (given : Given) (rest : Entries) (short : AreShort given.inputs) (limit : length given.certificate ≤ limit_of CertificateFile) where
   abbrev files : Files
   files = holding (given_texts given ++ rest)
 
@@ -87,7 +87,7 @@ module _ (given : Given) (rest : Texts) (short : AreShort given.inputs) (limit :
 
 -- ---- the answers over them
 
-pub handed : (old new texts : Texts) → new ≡ old ++ texts → (count : ℕ) → map (λ x. x.0) texts ≡ take count reading_order
+pub handed : (old new texts : Entries) → new ≡ old ++ texts → (count : ℕ) → map (λ x. x.0) texts ≡ take count reading_order
     → (end : Result Verdict CheckStop) → IsCheck (holding texts) end → IsHanded old new end
 handed old new texts logged count names (Ok shown) h = record { texts = texts; logged = logged; count = count; names = names; found = h }
 handed old new texts logged count names (Err (stop.Unread why)) h = tt
@@ -100,12 +100,12 @@ handed old new texts logged count names (Err stop.NoMemory) h = tt
 pub alone : (given : Given) → AreShort given.inputs → length given.certificate ≤ limit_of CertificateFile → given_in (holding (given_texts given)) ≡ Ok given
 alone given short limit = given_held given [] short limit
 
-pub handed_given : (old new : Texts) (given : Given) → new ≡ old ++ given_texts given → (end : Result Verdict CheckStop) → IsCheck (holding (given_texts given)) end → IsHanded old new end
+pub handed_given : (old new : Entries) (given : Given) → new ≡ old ++ given_texts given → (end : Result Verdict CheckStop) → IsCheck (holding (given_texts given)) end → IsHanded old new end
 handed_given old new given logged end h = handed old new (given_texts given) logged 9 refl end h
 
 -- and with the roster
-module _ (old log new : Texts) (problem : Problem) (certificate : Certificate) (read : HandedIn old log problem certificate) (text : List ℕ) (logged : new ≡ log ++ (name_of Roster, text) ∷ []) (le : length text ≤ limit_of Roster) where
-  abbrev pub all_texts : Texts
+module _ (old log new : Entries) (problem : Problem) (certificate : Certificate) (read : HandedIn old log problem certificate) (text : List ℕ) (logged : new ≡ log ++ (name_of Roster, text) ∷ []) (le : length text ≤ limit_of Roster) where
+  abbrev pub all_texts : Entries
   all_texts = given_texts read.given ++ (name_of Roster, text) ∷ []
 
   pub roster_held : text_in (holding all_texts) Roster ≡ Ok text
@@ -120,9 +120,9 @@ module _ (old log new : Texts) (problem : Problem) (certificate : Certificate) (
 
   pub handed_all : (end : Result Verdict CheckStop) → IsCheck (holding all_texts) end → IsHanded old new end
   handed_all end h =
-      handed old new all_texts (logged ∙ ap (λ (l : Texts). l ++ (name_of Roster, text) ∷ []) read.logged ∙ append_assoc old (given_texts read.given) ((name_of Roster, text) ∷ [])) 10 refl end h
+      handed old new all_texts (logged ∙ ap (λ (l : Entries). l ++ (name_of Roster, text) ∷ []) read.logged ∙ append_assoc old (given_texts read.given) ((name_of Roster, text) ∷ [])) 10 refl end h
 
-pub given_named : (old log : Texts) (problem : Problem) (certificate : Certificate) (read : HandedIn old log problem certificate) → NamesCertificate (holding (given_texts read.given)) problem certificate
+pub given_named : (old log : Entries) (problem : Problem) (certificate : Certificate) (read : HandedIn old log problem certificate) → NamesCertificate (holding (given_texts read.given)) problem certificate
 given_named old log problem certificate read = record {
   given = read.given;
   before = record { read = alone read.given read.short read.limit; names = read.names };
@@ -131,13 +131,13 @@ given_named old log problem certificate read = record {
 
 -- ---- the form of an award
 
-module _ (old log : Texts) (problem : Problem) (awarded : Awarded) (read : HandedIn old log problem (Award awarded)) where
+module _ (old log : Entries) (problem : Problem) (awarded : Awarded) (read : HandedIn old log problem (Award awarded)) where
   pub handed_shown : 0 < length awarded.shown → IsHanded old log (Err stop.NotYet)
   handed_shown some =
       handed_given old log read.given read.logged (Err stop.NotYet)
       (ends_at_shown (holding (given_texts read.given)) problem awarded (given_named old log problem (Award awarded) read) some)
 
-  module _ (none : awarded.shown ≡ []) (new : Texts) (text : List ℕ) (logged : new ≡ log ++ (name_of Roster, text) ∷ []) (le : length text ≤ limit_of Roster) where
+  module _ (none : awarded.shown ≡ []) (new : Entries) (text : List ℕ) (logged : new ≡ log ++ (name_of Roster, text) ∷ []) (le : length text ≤ limit_of Roster) where
     pub handed_roster : (fault : TextFault) → Fails fault (roster_of problem text) → IsHanded old new (Err (roster_stop fault))
     handed_roster fault h =
         handed_all old log new problem (Award awarded) read text logged le (Err (roster_stop fault))
@@ -159,7 +159,7 @@ module _ (old log : Texts) (problem : Problem) (awarded : Awarded) (read : Hande
 
 -- ---- before the form is known
 
-module _ (old new : Texts) (given : Given) (logged : new ≡ old ++ given_texts given) (short : AreShort given.inputs) (limit : length given.certificate ≤ limit_of CertificateFile) where
+module _ (old new : Entries) (given : Given) (logged : new ≡ old ++ given_texts given) (short : AreShort given.inputs) (limit : length given.certificate ≤ limit_of CertificateFile) where
   pub handed_month : (why : BadInput) → Ends {X = Problem} (Names given.inputs) given.inputs (Err why) → IsHanded old new (Err (stop.BadInput why))
   handed_month why h =
       handed_given old new given logged (Err (stop.BadInput why)) (ends_at_month (holding (given_texts given)) given (alone given short limit) why h)
@@ -174,7 +174,7 @@ module _ (old new : Texts) (given : Given) (logged : new ≡ old ++ given_texts 
 
 -- ---- the form without a roster
 
-module _ (old log : Texts) (problem : Problem) (proof : List Item) (read : HandedIn old log problem (NoRoster proof)) where
+module _ (old log : Entries) (problem : Problem) (proof : List Item) (read : HandedIn old log problem (NoRoster proof)) where
   pub handed_none : Closes problem no_goal [] proof → HasNoRoster problem → IsHanded old log (Ok verdict.NoRoster)
   handed_none closes none =
       handed_given old log read.given read.logged (Ok verdict.NoRoster)

@@ -2,7 +2,7 @@
 -- nothing leaves.
 use Rattle.std.proofs.Common.{◌≡◌, ℕ, Bool, true, false, cond, ltb, List, length, Option, Some, None, Result, Ok, Err, inl, inr, refl, sym, ap, subst, ◌∙◌}
 use Rattle.shelf.specs.Files.{Files, file}
-use Rattle.shelf.specs.Logs.{Texts, holding}
+use Rattle.shelf.specs.Logs.{Entries, holding}
 use Rattle.shelf.specs.Puts.{with_piece, Puts}
 use Rattle.shelf.specs.declared.fault.SinkFault.{SinkFault}
 use Rattle.shelf.specs.declared.fault.SinkFault.TheVariants.{PutFailed, NoMemory}
@@ -114,7 +114,7 @@ yes_stands files o right old new result (inl said) e =
     let yes' = is_yes o said.put old.bytes new.bytes said.text (sym said.ends ∙ e) in
     (yes'.shown, stands files yes'.shown (subst (IsRight files) yes'.accepted right), yes'.put)
 
-pub yes_stands_read : (old new : Texts) (o : Outcome) → IsHandedIn old new o → (before after : Sunk) (result : Status) → Says o before after result → result ≡ status.Done
+pub yes_stands_read : (old new : Entries) (o : Outcome) → IsHandedIn old new o → (before after : Sunk) (result : Status) → Says o before after result → result ≡ status.Done
     → (shown : Verdict) × FromTexts old new (λ files. Stands files shown) × (after.bytes ≡ with_piece before.bytes (yes_text shown))
 yes_stands_read old new o read before after result (inr said) e = let impossible : status.NoMemory ≡ status.Done = sym said.ends ∙ e in absurd cc
 yes_stands_read old new o read before after result (inl said) e =

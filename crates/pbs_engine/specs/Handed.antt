@@ -1,7 +1,7 @@
 -- What `check` says of the texts that its reads handed in, be files told or not.
 use Rattle.std.specs.Prelude.{◌≡◌, ◌≤◌, ℕ, List, [], ◌∷◌, ◌++◌, map, take, length, Result, Ok, Err}
 use Rattle.shelf.specs.Files.{Files}
-use Rattle.shelf.specs.Logs.{Texts, holding}
+use Rattle.shelf.specs.Logs.{Entries, holding}
 use Rattle.roster_model.specs.declared.problem.Problem.{Problem}
 use Rattle.roster_model.specs.declared.award.Certificate.{Certificate}
 use Rattle.cert_text.specs.Reading.{certificate_in}
@@ -20,15 +20,15 @@ abbrev pub reading_order : List (List ℕ)
 reading_order = map name_of (Rules ∷ Pairings ∷ Duties ∷ Legs ∷ Crew ∷ History ∷ Fixed ∷ Bids ∷ CertificateFile ∷ Roster ∷ [])
 
 -- the reads handed in these texts, of the first so many files, each once and in order; and P holds of files with them
-pub record FromTexts (old new : Texts) (P : Files → Type 0) : Type 0 where
-  pub texts : Texts
+pub record FromTexts (old new : Entries) (P : Files → Type 0) : Type 0 where
+  pub texts : Entries
   pub logged : new ≡ old ++ texts
   pub count : ℕ
   pub names : map (λ x. x.0) texts ≡ take count reading_order
   pub found : P (holding texts)
 
 -- where not all due files were read, or memory was wanting, nothing is said
-abbrev pub IsHanded : Texts → Texts → Result Verdict CheckStop → Type 0
+abbrev pub IsHanded : Entries → Entries → Result Verdict CheckStop → Type 0
 IsHanded old new (Ok shown) = FromTexts old new (λ files. IsAccepted files shown)
 IsHanded old new (Err (stop.Unread why)) = Unit {0}
 IsHanded old new (Err (stop.BadInput why)) = FromTexts old new (λ files. IsBadInput files why)
@@ -37,11 +37,11 @@ IsHanded old new (Err (stop.No why)) = FromTexts old new (λ files. IsRefused fi
 IsHanded old new (Err stop.NoMemory) = Unit {0}
 
 -- the inputs and the certificate, as they are read
-abbrev pub given_texts : Given → Texts
+abbrev pub given_texts : Given → Entries
 given_texts given = input_texts given.inputs ++ (name_of CertificateFile, given.certificate) ∷ []
 
 -- the reads so far handed in these, and they name a problem and a certificate
-pub record HandedIn (old log : Texts) (problem : Problem) (certificate : Certificate) : Type 0 where
+pub record HandedIn (old log : Entries) (problem : Problem) (certificate : Certificate) : Type 0 where
   pub given : Given
   pub logged : log ≡ old ++ given_texts given
   pub short : AreShort given.inputs

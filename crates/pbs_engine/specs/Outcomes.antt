@@ -2,7 +2,7 @@
 -- it takes of the files and of the shelf's counts. Each command has its line in each of these definitions.
 use Rattle.std.specs.Prelude.{◌≡◌, ℕ, List, codes, Option, Some, None}
 use Rattle.shelf.specs.Files.{Files}
-use Rattle.shelf.specs.Logs.{Texts}
+use Rattle.shelf.specs.Logs.{Entries}
 use Rattle.shelf.specs.declared.tally.Tally.{Tally}
 use Rattle.pbs_engine.specs.declared.command.Command.{Command}
 use Rattle.pbs_engine.specs.declared.command.Command.TheVariants as command
@@ -42,7 +42,7 @@ IsRight files outcome.Usage = Unit {0}
 IsRight files (outcome.Check end) = IsCheck files end
 
 -- the outcome is right of the texts that its reads handed in
-abbrev pub IsHandedIn : Texts → Texts → Outcome → Type 0
+abbrev pub IsHandedIn : Entries → Entries → Outcome → Type 0
 IsHandedIn old new outcome.Usage = new ≡ old
 IsHandedIn old new (outcome.Check end) = IsHanded old new end
 

@@ -1,7 +1,7 @@
 -- What a run does: it comes to an outcome, and puts its text.
 use Rattle.std.specs.Prelude.{◌≡◌, ℕ, List, Option, Some, Result, Ok, Err, ◌⊎◌}
 use Rattle.shelf.specs.Files.{Files}
-use Rattle.shelf.specs.Logs.{Texts}
+use Rattle.shelf.specs.Logs.{Entries}
 use Rattle.shelf.specs.declared.tally.Tally.{Tally}
 use Rattle.shelf.specs.Tallies.{Rose}
 use Rattle.shelf.specs.Puts.{PutCause, PutWants, Puts}
@@ -18,9 +18,9 @@ use Rattle.pbs_engine.specs.declared.status.Status.TheVariants as status
 pub record Shelved : Type 0 where
   pub files : Option Files
   pub tally : Tally
-  pub log : Texts
+  pub log : Entries
 
-abbrev pub shelved : Option Files → Tally → Texts → Shelved
+abbrev pub shelved : Option Files → Tally → Entries → Shelved
 shelved files tally log = record { files = files; tally = tally; log = log }
 
 -- what a sink shows: how often a put has failed and has found no memory, and the bytes so far where it tells them

@@ -9,7 +9,7 @@ ghost use Rattle.month_files.specs.Reading.{HasCause, Finds, view_texts, AreShor
 ghost use Rattle.roster_model.specs.Awards.{IsBest, IsGreatest};
 ghost use Rattle.roster_model.specs.Rosters.{scores_of};
 ghost use Rattle.roster_model.specs.declared.award.Certificate.TheVariants.{Award as AwardForm};
-ghost use Rattle.shelf.specs.Logs.{Texts as Entries};
+ghost use Rattle.shelf.specs.Logs.{Entries};
 ghost use Rattle.pbs_engine.specs.Check.{IsCheck, NamesCertificate, given_in, view_given};
 ghost use Rattle.pbs_engine.specs.CheckTexts.{CheckCause};
 ghost use Rattle.pbs_engine.specs.Handed.{given_texts, IsHanded, HandedIn};

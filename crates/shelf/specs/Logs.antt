@@ -6,14 +6,14 @@ use Rattle.std.specs.declared.alloc.Global.{Global}
 use Rattle.shelf.specs.declared.fault.ShelfFault.{ShelfFault}
 use Rattle.shelf.specs.Files.{Files}
 
-abbrev pub Texts : Type 0
-Texts = List (List ℕ × List ℕ)
+abbrev pub Entries : Type 0
+Entries = List (List ℕ × List ℕ)
 
 -- after a read of this name: its bytes are the last where it answered Ok, and nothing is new where it did not
-abbrev pub with_read : Texts → List ℕ → Result (Vec ℕ Global) ShelfFault → Texts
+abbrev pub with_read : Entries → List ℕ → Result (Vec ℕ Global) ShelfFault → Entries
 with_read log name (Ok bytes) = log ++ (name, bytes.items) ∷ []
 with_read log name (Err why) = log
 
 -- the files that hold these texts and nothing else; the first text of a name counts
-abbrev pub holding : Texts → Files
+abbrev pub holding : Entries → Files
 holding texts = map.from_entries texts

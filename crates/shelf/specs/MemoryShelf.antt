@@ -4,7 +4,7 @@ use Rattle.std.specs.declared.alloc.Global.{Global}
 use Rattle.std.specs.BTreeMap.{BTreeMap}
 use Rattle.std.specs.FinMap as map_of
 use Rattle.shelf.specs.Files.{Files}
-use Rattle.shelf.specs.Logs.{Texts}
+use Rattle.shelf.specs.Logs.{Entries}
 use Rattle.shelf.specs.declared.memory_shelf.MemoryShelf.{MemoryShelf}
 use Rattle.shelf.specs.declared.tally.Tally.{Tally}
 
@@ -23,7 +23,7 @@ abbrev pub tally_of : MemoryShelf → Tally
 tally_of s = s.tally
 
 -- what reads have handed in
-abbrev pub log_of : MemoryShelf → Texts
+abbrev pub log_of : MemoryShelf → Entries
 log_of s = s.log.entries
 
 -- the numbers of the reads and writes that are to fail

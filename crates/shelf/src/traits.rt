@@ -5,7 +5,7 @@ ghost use Rattle.shelf.specs.declared.tally.Tally.{Tally};
 ghost use Rattle.shelf.specs.Names.{IsName};
 ghost use Rattle.shelf.specs.Causes.{ReadCause, WriteCause};
 ghost use Rattle.shelf.specs.Files.{Files, IsRead, SameButAt, with_file};
-ghost use Rattle.shelf.specs.Logs.{Texts, with_read};
+ghost use Rattle.shelf.specs.Logs.{Entries, with_read};
 
 use crate::fault::ShelfFault;
 use std::alloc::Global;
@@ -19,7 +19,7 @@ pub trait Shelf {
     ghost tally: { Self → Tally };
 
     /// What reads have handed in so far: the name and the bytes of each read that answered Ok, in order.
-    ghost log: { Self → Texts };
+    ghost log: { Self → Entries };
 
     /// The bytes of a file, if they are at most `limit`.
     fn read(&mut self, alloc: Global, name: &str, limit: u64) -> Result<Vec<u8>, ShelfFault>
