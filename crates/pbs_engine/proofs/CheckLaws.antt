@@ -1,5 +1,5 @@
 -- How `check` ends, from what its stages answer.
-use Rattle.std.proofs.Common.{◌≡◌, ℕ, ◌<◌, List, [], length, Some, Result, Ok, Err, refl, inl, inr, subst}
+use Rattle.std.proofs.Common.{◌≡◌, ℕ, ◌<◌, List, [], length, Some, Ok, Err, refl, inl, inr}
 use Rattle.shelf.specs.Files.{Files}
 use Rattle.shelf.specs.declared.tally.Tally.{Tally}
 use Rattle.roster_model.specs.declared.problem.Problem.{Problem}
@@ -26,11 +26,9 @@ use Rattle.month_files.specs.declared.unread.Unread.{Unread}
 use Rattle.month_files.specs.declared.unread.Unread.TheVariants as unread
 use Rattle.month_files.specs.Months.{Names, Ends}
 use Rattle.month_files.specs.Reading.{UnreadIs, text_in}
-use Rattle.pbs_engine.specs.declared.check_stop.CheckStop.{CheckStop}
 use Rattle.pbs_engine.specs.declared.check_stop.CheckStop.TheVariants as stop
 use Rattle.pbs_engine.specs.declared.text_fault.TextFault.{TextFault}
 use Rattle.pbs_engine.specs.declared.text_fault.TextFault.TheVariants as text
-use Rattle.pbs_engine.specs.declared.verdict.Verdict.{Verdict}
 use Rattle.pbs_engine.specs.declared.verdict.Verdict.TheVariants as verdict
 use Rattle.pbs_engine.specs.Check.{Given, given_in, NamesProblem, NamesCertificate, NamesAward, NamesAll, IsCheck}
 use Rattle.pbs_engine.specs.CheckEnds.{cert_stop, roster_stop, judge_stop}

@@ -1,5 +1,5 @@
 -- What the reads of `check` handed in, as files that hold it.
-use Rattle.std.proofs.Common.{◌≡◌, ℕ, ◌<◌, ◌≤◌, Bool, true, false, cond, ltb, List, [], ◌∷◌, ◌++◌, map, take, length, Option, Some, None, Result, Ok, Err, refl, sym, ap, subst, ◌∙◌, append_assoc, nat_cmp, arith}
+use Rattle.std.proofs.Common.{◌≡◌, ℕ, ◌<◌, ◌≤◌, Bool, true, false, cond, ltb, List, [], ◌∷◌, ◌++◌, map, take, length, Some, Result, Ok, Err, refl, sym, ap, subst, ◌∙◌, append_assoc, nat_cmp, arith}
 use Rattle.std.proofs.lemmas.Bool.Decides.{nat_tests}
 use Rattle.std.proofs.lemmas.Cmp.{nat_list_cmp_total}
 use Rattle.std.specs.Cmp.Lexicographic.{slice_cmp}
@@ -39,7 +39,7 @@ use Rattle.pbs_engine.specs.declared.check_stop.CheckStop.{CheckStop}
 use Rattle.pbs_engine.specs.declared.check_stop.CheckStop.TheVariants as stop
 use Rattle.pbs_engine.specs.declared.verdict.Verdict.{Verdict}
 use Rattle.pbs_engine.specs.Check.{Given, given_in, NamesCertificate, IsCheck}
-use Rattle.pbs_engine.specs.Handed.{reading_order, FromTexts, IsHanded, given_texts, HandedIn}
+use Rattle.pbs_engine.specs.Handed.{reading_order, IsHanded, given_texts, HandedIn}
 
 -- ---- one text
 

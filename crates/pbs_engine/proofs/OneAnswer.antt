@@ -3,7 +3,6 @@ use Rattle.std.proofs.Common.{◌≡◌, ℕ, ◌<◌, List, [], length, Option,
 use Rattle.std.specs.Prelude.{◌⊎◌}
 use Rattle.shelf.specs.Files.{Files}
 use Rattle.roster_model.specs.declared.problem.Problem.{Problem}
-use Rattle.roster_model.specs.declared.proof.Item.{Item}
 use Rattle.roster_model.specs.declared.award.Awarded.{Awarded}
 use Rattle.roster_model.specs.declared.award.Certificate.{Certificate}
 use Rattle.roster_model.specs.declared.award.Certificate.TheVariants.{Award, NoRoster}

@@ -1,5 +1,5 @@
 -- The table of answers, and which counts each status speaks of, follow from the outcome and its text.
-use Rattle.std.proofs.Common.{◌≡◌, ℕ, List, Option, Some, None, Result, Ok, Err, inl, inr, refl, sym, subst, ◌∙◌}
+use Rattle.std.proofs.Common.{◌≡◌, ℕ, List, Some, None, Result, Ok, Err, inl, inr, refl, sym, subst}
 use Rattle.std.specs.Prelude.{◌⊎◌}
 use Rattle.shelf.specs.Files.{Files}
 use Rattle.shelf.specs.Puts.{PutCause}

@@ -25,10 +25,8 @@ use Rattle.pbs_engine.specs.Check.{Given, given_in, AwardIsAccepted, NoneIsAccep
 use Rattle.pbs_engine.specs.CheckTexts.{yes_text}
 use Rattle.pbs_engine.specs.Handed.{FromTexts}
 use Rattle.pbs_engine.specs.Headline.{AwardStands, NoRosterStands, Stands}
-use Rattle.pbs_engine.specs.Outcomes.{asked_by, text_of, IsRight, IsHandedIn, written_by}
+use Rattle.pbs_engine.specs.Outcomes.{text_of, IsRight, IsHandedIn}
 use Rattle.pbs_engine.specs.Runs.{Says, Sunk, Shelved, ComesTo, ending}
-use Rattle.pbs_engine.specs.Words.{WritesNothing}
-use Rattle.pbs_engine.specs.Writes.{Leaves}
 use Rattle.pbs_engine.proofs.RosterLaws.{roster_takes}
 
 bind_ok : {A B : Type 0} (r : Result A Unread) (f : A → Result B Unread) (y : B) → (r >>= f) ≡ Ok y → (x : A) × (r ≡ Ok x) × (f x ≡ Ok y)

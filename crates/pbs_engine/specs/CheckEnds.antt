@@ -1,6 +1,4 @@
 -- What the ends of the stages of `check` become: ends of the command, statuses, and changes of the shelf's counts.
-use Rattle.std.specs.Prelude.{◌≡◌, Result, Ok, Err}
-use Rattle.shelf.specs.declared.tally.Tally.{Tally}
 use Rattle.cert_checker.specs.declared.refusal.No.{No}
 use Rattle.cert_checker.specs.declared.refusal.No.TheVariants as no
 use Rattle.cert_text.specs.declared.fault.CertCode.{CertCode}

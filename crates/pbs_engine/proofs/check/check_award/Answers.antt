@@ -1,4 +1,4 @@
-use Rattle.std.proofs.Common.{◌≡◌, ℕ, List, Some, Ok, Err, arith, subst}
+use Rattle.std.proofs.Common.{◌≡◌, ℕ, List, Some, arith, subst}
 use Rattle.std.proofs.lemmas.List.{nil_from_length}
 use Rattle.std.proofs.lemmas.Result.{err_from_is_err_and}
 use Rattle.pbs_engine.specs.RosterReading.{roster_of}

@@ -1,4 +1,4 @@
-use Rattle.std.proofs.Common.{ℕ, List, [], ◌∷◌, ◌++◌, ap, ◌∙◌, append_assoc}
+use Rattle.std.proofs.Common.{[], ◌∷◌, ◌++◌, ap, ◌∙◌, append_assoc}
 use Rattle.shelf.specs.Logs.{Entries}
 use Rattle.month_files.specs.Handing.{input_texts}
 use Rattle.month_files.specs.Reading.{view_texts}
