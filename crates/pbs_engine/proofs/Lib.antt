@@ -1,10 +1,10 @@
-pub mod OneWord
 pub mod ReadingLaws
 pub mod Several
 pub mod RosterLaws
 pub mod Saying
 pub mod Texts
 pub mod CheckLaws
-pub mod Ends
+pub mod HandedLaws
+pub mod OneAnswer
 pub mod Standing
 pub mod Rows

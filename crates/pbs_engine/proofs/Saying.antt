@@ -1,17 +1,16 @@
--- An answer and what was said of it.
-use Rattle.std.proofs.Common.{ℕ, List, [], Option, Some, None, Err, refl, sym, ap}
-use Rattle.std.proofs.lemmas.List.{append-nil}
-use Rattle.shelf.specs.declared.fault.SinkFault.TheVariants.{NoMemory}
-use Rattle.shelf.specs.Puts.{Puts}
-use Rattle.pbs_engine.specs.declared.answer.Answer.{Answer}
+-- An outcome that was not said, and one whose text was put.
+use Rattle.std.proofs.Common.{Result, inl, inr, refl}
+use Rattle.shelf.specs.declared.fault.SinkFault.{SinkFault}
+use Rattle.shelf.specs.Puts.{PutCause, PutWants, Puts}
+use Rattle.pbs_engine.specs.declared.outcome.Outcome.{Outcome}
 use Rattle.pbs_engine.specs.declared.status.Status.TheVariants as status
-use Rattle.pbs_engine.specs.Answers.{text_of}
-use Rattle.pbs_engine.specs.Runs.{Said}
+use Rattle.pbs_engine.specs.Outcomes.{text_of}
+use Rattle.pbs_engine.specs.Runs.{Says, Sunk, ending}
 
-nothing_put : (held : Option (List ℕ)) (piece : List ℕ) → Puts {T = Unit {0}} held held piece (Err NoMemory)
-nothing_put None piece = record { front = []; back = piece; parts = refl; added = refl }
-nothing_put (Some bytes) piece = record { front = []; back = piece; parts = refl; added = ap Some (sym (append-nil bytes)) }
+-- with no memory for its text an outcome isn't said
+pub unsaid : (o : Outcome) (at : Sunk) → Says o at at status.NoMemory
+unsaid o at = inr (record { same = refl; ends = refl })
 
--- with no memory for its text an answer isn't said
-pub unsaid : (a : Answer) (count : ℕ) (held : Option (List ℕ)) → Said a count count held held status.NoMemory
-unsaid a count held = record { put = Err NoMemory; cause = refl; text = nothing_put held (text_of a); ends = refl }
+pub was_put : (o : Outcome) (old new : Sunk) (put : Result (Unit {0}) SinkFault) → PutCause old.faults new.faults put → PutWants old.wants new.wants put
+    → Puts old.bytes new.bytes (text_of o) put → Says o old new (ending o put)
+was_put o old new put cause wanted text = inl (record { put = put; cause = cause; wanted = wanted; text = text; ends = refl })

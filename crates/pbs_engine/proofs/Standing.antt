@@ -1,29 +1,35 @@
--- A yes says that the award stands, or that there is no complete roster.
-use Rattle.std.proofs.Common.{◌≡◌, ℕ, Bool, true, false, cond, ltb, List, length, Option, Some, None, Result, Ok, Err, refl, sym, ap, subst, ◌∙◌}
+-- A yes says that the award stands, or that there is no complete roster; and what a run of a command that writes
+-- nothing leaves.
+use Rattle.std.proofs.Common.{◌≡◌, ℕ, Bool, true, false, cond, ltb, List, length, Option, Some, None, Result, Ok, Err, inl, inr, refl, sym, ap, subst, ◌∙◌}
 use Rattle.shelf.specs.Files.{Files, file}
+use Rattle.shelf.specs.Logs.{Entries, holding}
 use Rattle.shelf.specs.Puts.{with_piece, Puts}
 use Rattle.shelf.specs.declared.fault.SinkFault.{SinkFault}
 use Rattle.shelf.specs.declared.fault.SinkFault.TheVariants.{PutFailed, NoMemory}
 use Rattle.roster_model.specs.Rosters.{IsGreater, scores_of}
-use Rattle.pbs_engine.specs.FileNames.{name_of, limit_of}
-use Rattle.pbs_engine.specs.declared.file.File.{File}
-use Rattle.pbs_engine.specs.declared.file.File.TheVariants.{Certificate, Roster}
-use Rattle.pbs_engine.specs.declared.answer.Answer.{Answer}
-use Rattle.pbs_engine.specs.declared.answer.Answer.TheVariants as answer
+use Rattle.month_files.specs.FileNames.{name_of, limit_of}
+use Rattle.month_files.specs.declared.fault.BadInput.TheVariants as bad
+use Rattle.month_files.specs.declared.file.File.{File}
+use Rattle.month_files.specs.declared.file.File.TheVariants.{Certificate, Roster}
+use Rattle.month_files.specs.declared.unread.Unread.{Unread}
+use Rattle.month_files.specs.declared.unread.Unread.TheVariants as unread
+use Rattle.month_files.specs.Reading.{◌>>=◌, within, text_in, texts_in}
+use Rattle.pbs_engine.specs.declared.check_stop.CheckStop.TheVariants as stop
+use Rattle.pbs_engine.specs.declared.outcome.Outcome.{Outcome}
+use Rattle.pbs_engine.specs.declared.outcome.Outcome.TheVariants as outcome
 use Rattle.pbs_engine.specs.declared.status.Status.{Status}
 use Rattle.pbs_engine.specs.declared.status.Status.TheVariants as status
 use Rattle.pbs_engine.specs.declared.verdict.Verdict.{Verdict}
 use Rattle.pbs_engine.specs.declared.verdict.Verdict.TheVariants as verdict
-use Rattle.pbs_engine.specs.declared.stop.Stop.{Stop}
-use Rattle.pbs_engine.specs.declared.stop.Stop.TheVariants as stop
-use Rattle.pbs_engine.specs.Reading.{◌>>=◌, within, text_in, texts_in}
-use Rattle.pbs_engine.specs.Checks.{Given, given_in, AwardIsJudged, NoneIsJudged, IsCheck}
-use Rattle.pbs_engine.specs.Answers.{text_of}
-use Rattle.pbs_engine.specs.Headline.{AwardStands, NoRosterStands, Stands, yes_text}
-use Rattle.pbs_engine.specs.Runs.{Said, IsAnswer, ending}
+use Rattle.pbs_engine.specs.Check.{Given, given_in, AwardIsAccepted, NoneIsAccepted, IsAccepted}
+use Rattle.pbs_engine.specs.CheckTexts.{yes_text}
+use Rattle.pbs_engine.specs.Handed.{FromTexts}
+use Rattle.pbs_engine.specs.Headline.{AwardStands, NoRosterStands, Stands}
+use Rattle.pbs_engine.specs.Outcomes.{text_of, IsRight, IsHandedIn}
+use Rattle.pbs_engine.specs.Runs.{Says, Sunk, Shelved, ComesTo, ending}
 use Rattle.pbs_engine.proofs.RosterLaws.{roster_takes}
 
-bind_ok : {A B : Type 0} (r : Result A Stop) (f : A → Result B Stop) (y : B) → (r >>= f) ≡ Ok y → (x : A) × (r ≡ Ok x) × (f x ≡ Ok y)
+bind_ok : {A B : Type 0} (r : Result A Unread) (f : A → Result B Unread) (y : B) → (r >>= f) ≡ Ok y → (x : A) × (r ≡ Ok x) × (f x ≡ Ok y)
 bind_ok (Ok x) f y e = (x, refl, e)
 bind_ok (Err d) f y e = absurd cc
 
@@ -35,20 +41,19 @@ given_reads files given e =
     let whole : record { inputs = a.0; certificate = b.0 } ≡ given = same_ok _ _ _ refl b.2 in
     a.1 ∙ ap (λ (g : Given). Ok g.inputs) whole
   where
-    same_ok : (r : Result Given Stop) (x y : Given) → r ≡ Ok x → r ≡ Ok y → x ≡ y
+    same_ok : (r : Result Given Unread) (x y : Given) → r ≡ Ok x → r ≡ Ok y → x ≡ y
     same_ok r x y a b = cc
 
 there : (f : File) (o : Option (List ℕ)) (bytes : List ℕ) → within f o ≡ Ok bytes → o ≡ Some bytes
 there f None bytes e = absurd cc
 there f (Some held) bytes e = by (ltb (limit_of f) (length held)) e
   where
-    by : (b : Bool) → cond b (Err (stop.TooLong f)) (Ok held) ≡ Ok bytes → Some held ≡ Some bytes
+    by : (b : Bool) → cond b (Err (unread.TooLong f)) (Ok held) ≡ Ok bytes → Some held ≡ Some bytes
     by true e = absurd cc
     by false e = let same : held ≡ bytes = cc in ap Some same
 
-award_stands : (files : Files) (scores : List ℕ) → AwardIsJudged files (Ok (verdict.Award scores)) → AwardStands files scores
+award_stands : (files : Files) (scores : List ℕ) → AwardIsAccepted files scores → AwardStands files scores
 award_stands files scores h =
-    let award = h.judged in
     let named = h.named.before.before in
     let given = named.given in
     let text = roster_takes h.problem h.named.text h.roster h.named.read in
@@ -59,12 +64,12 @@ award_stands files scores h =
       names = named.before.names;
       roster = h.roster;
       roster_file = there Roster (file files (name_of Roster)) h.named.text h.named.there ∙ ap Some text.1;
-      complete = award.best.complete;
-      scores_are = award.scores_are;
-      greatest = λ other complete more. award.greatest other complete (subst (λ (s : List ℕ). IsGreater (scores_of h.problem other) s) award.scores_are more);
+      complete = h.best.complete;
+      scores_are = h.scores_are;
+      greatest = λ other complete more. h.greatest other complete (subst (λ (s : List ℕ). IsGreater (scores_of h.problem other) s) h.scores_are more);
     }
 
-none_stands : (files : Files) → NoneIsJudged files (Ok verdict.NoRoster) → NoRosterStands files
+none_stands : (files : Files) → NoneIsAccepted files → NoRosterStands files
 none_stands files h =
     let given = h.named.given in
     record {
@@ -72,50 +77,54 @@ none_stands files h =
       read = given_reads files given h.named.before.read;
       problem = h.problem;
       names = h.named.before.names;
-      none = h.judged.none;
+      none = h.none;
     }
 
-stands : (files : Files) (shown : Verdict) → IsCheck files (Ok shown) → Stands files shown
+stands : (files : Files) (shown : Verdict) → IsAccepted files shown → Stands files shown
 stands files (verdict.Award scores) h = award_stands files scores h
 stands files verdict.NoRoster h = none_stands files h
 
--- an accepted certificate, put whole, and nothing else ends in Done
-record IsYes {T : Type 0} (a : Answer) (put : Result T SinkFault) : Type 0 where
+-- a yes of `check`, put whole, and nothing else ends in Done
+record IsYes (o : Outcome) (old new : Option (List ℕ)) : Type 0 where
   shown : Verdict
-  accepted : a ≡ answer.Accepted shown
-  value : T
-  whole : put ≡ Ok value
+  accepted : o ≡ outcome.Check (Ok shown)
+  put : new ≡ with_piece old (yes_text shown)
 
-is_yes : {T : Type 0} (a : Answer) (put : Result T SinkFault) → ending a put ≡ status.Done → IsYes a put
-is_yes answer.Usage (Ok x) e = absurd cc
-is_yes (answer.Accepted shown) (Ok x) e = record { shown = shown; accepted = refl; value = x; whole = refl }
-is_yes (answer.Stopped (stop.BadInput fault)) (Ok x) e = absurd cc
-is_yes (answer.Stopped (stop.NotYet f)) (Ok x) e = absurd cc
-is_yes (answer.Stopped (stop.No why)) (Ok x) e = absurd cc
-is_yes (answer.Stopped (stop.Missing f)) (Ok x) e = absurd cc
-is_yes (answer.Stopped (stop.ReadFault f)) (Ok x) e = absurd cc
-is_yes (answer.Stopped (stop.TooLong f)) (Ok x) e = absurd cc
-is_yes (answer.Stopped stop.NoMemory) (Ok x) e = absurd cc
-is_yes a (Err PutFailed) e = absurd cc
-is_yes a (Err NoMemory) e = absurd cc
+is_yes : (o : Outcome) (put : Result (Unit {0}) SinkFault) (old new : Option (List ℕ)) → Puts old new (text_of o) put → ending o put ≡ status.Done → IsYes o old new
+is_yes outcome.Usage (Ok x) old new text e = absurd cc
+is_yes (outcome.Check (Ok shown)) (Ok x) old new text e = record { shown = shown; accepted = refl; put = text }
+is_yes (outcome.Check (Err (stop.Unread (unread.Missing f)))) (Ok x) old new text e = absurd cc
+is_yes (outcome.Check (Err (stop.Unread (unread.ReadFault f)))) (Ok x) old new text e = absurd cc
+is_yes (outcome.Check (Err (stop.Unread (unread.TooLong f)))) (Ok x) old new text e = absurd cc
+is_yes (outcome.Check (Err (stop.Unread unread.NoMemory))) (Ok x) old new text e = absurd cc
+is_yes (outcome.Check (Err (stop.BadInput (bad.Fault fault)))) (Ok x) old new text e = absurd cc
+is_yes (outcome.Check (Err (stop.BadInput bad.NoMemory))) (Ok x) old new text e = absurd cc
+is_yes (outcome.Check (Err stop.NotYet)) (Ok x) old new text e = absurd cc
+is_yes (outcome.Check (Err (stop.No why))) (Ok x) old new text e = absurd cc
+is_yes (outcome.Check (Err stop.NoMemory)) (Ok x) old new text e = absurd cc
+is_yes o (Err PutFailed) old new text e = absurd cc
+is_yes o (Err NoMemory) old new text e = absurd cc
 
-yes_put : (old : Option (List ℕ)) (shown : Verdict) → with_piece old (text_of (answer.Accepted shown)) ≡ with_piece old (yes_text shown)
-yes_put old (verdict.Award scores) = refl
-yes_put old verdict.NoRoster = refl
+pub yes_stands : (files : Files) (o : Outcome) → IsRight files o → (old new : Sunk) (result : Status) → Says o old new result → result ≡ status.Done
+    → (shown : Verdict) × Stands files shown × (new.bytes ≡ with_piece old.bytes (yes_text shown))
+yes_stands files o right old new result (inr said) e = let impossible : status.NoMemory ≡ status.Done = sym said.ends ∙ e in absurd cc
+yes_stands files o right old new result (inl said) e =
+    let yes' = is_yes o said.put old.bytes new.bytes said.text (sym said.ends ∙ e) in
+    (yes'.shown, stands files yes'.shown (subst (IsRight files) yes'.accepted right), yes'.put)
 
-pub yes_stands : (files : Files) (a : Answer) → IsAnswer files a → (before now : ℕ) (old new : Option (List ℕ)) (result : Status) → Said a before now old new result → result ≡ status.Done
-    → (shown : Verdict) × Stands files shown × (new ≡ with_piece old (yes_text shown))
-yes_stands files a told before now old new result said e =
-    let yes' = is_yes a said.put (sym said.ends ∙ e) in (
+pub yes_stands_read : (old new : Entries) (o : Outcome) → IsHandedIn old new o → (before after : Sunk) (result : Status) → Says o before after result → result ≡ status.Done
+    → (shown : Verdict) × FromTexts old new (λ files. Stands files shown) × (after.bytes ≡ with_piece before.bytes (yes_text shown))
+yes_stands_read old new o read before after result (inr said) e = let impossible : status.NoMemory ≡ status.Done = sym said.ends ∙ e in absurd cc
+yes_stands_read old new o read before after result (inl said) e =
+    let yes' = is_yes o said.put before.bytes after.bytes said.text (sym said.ends ∙ e) in
+    let from : FromTexts old new (λ files. IsAccepted files yes'.shown) = subst (IsHandedIn old new) yes'.accepted read in (
       yes'.shown,
-      stands files yes'.shown (subst (IsAnswer files) yes'.accepted told),
-      put-whole a yes'.shown yes'.accepted said.put yes'.value yes'.whole said.text ∙ yes_put old yes'.shown,
+      record { texts = from.texts; logged = from.logged; count = from.count; names = from.names; found = stands (holding from.texts) yes'.shown from.found },
+      yes'.put,
     )
-  where
-    put-whole : (a : Answer) (shown : Verdict) → a ≡ answer.Accepted shown → (put : Result (Unit {0}) SinkFault) (value : Unit {0}) → put ≡ Ok value → Puts old new (text_of a) put
-        → new ≡ with_piece old (text_of (answer.Accepted shown))
-    put-whole a shown is put value whole text =
-        let text' : Puts old new (text_of (answer.Accepted shown)) (Ok value) =
-        subst (λ (p : Result (Unit {0}) SinkFault). Puts old new (text_of (answer.Accepted shown)) p) whole
-        (subst (λ (b : Answer). Puts old new (text_of b) put) is text) in
-        text'
+
+-- ---- what is left
+
+pub nothing_left : (words : List (List ℕ)) (old new : Shelved) (o : Outcome) → ComesTo words old new o → new.files ≡ old.files
+nothing_left words old new outcome.Usage comes = comes.left
+nothing_left words old new (outcome.Check end) comes = comes.left

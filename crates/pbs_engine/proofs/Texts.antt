@@ -2,7 +2,7 @@
 use Rattle.std.proofs.Common.{◌≡◌, ℕ, ◌+◌, ◌<◌, List, [], ◌∷◌, ◌++◌, length, get_or, take, sym, ap, ◌∙◌, append_assoc, decimal}
 use Rattle.std.proofs.lemmas.List.{take_more, append-nil}
 use Rattle.std.proofs.lemmas.Grind.{flat_map-append}
-use Rattle.pbs_engine.specs.Answers.{numbers}
+use Rattle.pbs_engine.specs.Lines.{numbers}
 
 -- one number more
 pub numbers_more : (out done : List ℕ) (list : List ℕ) (i n : ℕ) → i < length list → n ≡ get_or list i 0

@@ -1,15 +1,14 @@
 -- What a yes of `check` says of the files of a folder.
-use Rattle.std.specs.Prelude.{◌≡◌, ℕ, List, ◌++◌, Some, Ok, codes}
+use Rattle.std.specs.Prelude.{◌≡◌, ℕ, List, Some, Ok}
 use Rattle.shelf.specs.Files.{Files, file}
 use Rattle.roster_model.specs.declared.problem.Problem.{Problem}
 use Rattle.roster_model.specs.Rosters.{IsComplete, IsGreater, scores_of}
-use Rattle.pbs_engine.specs.FileNames.{name_of}
-use Rattle.pbs_engine.specs.declared.file.File.TheVariants.{Roster}
+use Rattle.month_files.specs.FileNames.{name_of}
+use Rattle.month_files.specs.Months.{Names}
+use Rattle.month_files.specs.Reading.{Inputs, texts_in}
+use Rattle.month_files.specs.declared.file.File.TheVariants.{Roster}
 use Rattle.pbs_engine.specs.declared.verdict.Verdict.{Verdict}
 use Rattle.pbs_engine.specs.declared.verdict.Verdict.TheVariants.{Award, NoRoster}
-use Rattle.pbs_engine.specs.Answers.{line, line_of}
-use Rattle.pbs_engine.specs.Months.{Names}
-use Rattle.pbs_engine.specs.Reading.{Inputs, texts_in}
 use Rattle.pbs_engine.specs.RosterText.{roster_text}
 
 -- the eight inputs name a problem, and the roster's file is the text of a roster that is complete: each member has
@@ -37,8 +36,3 @@ pub record NoRosterStands (files : Files) : Type 0 where
 abbrev pub Stands : Files → Verdict → Type 0
 Stands files (Award scores) = AwardStands files scores
 Stands files NoRoster = NoRosterStands files
-
--- what is printed at a yes
-abbrev pub yes_text : Verdict → List ℕ
-yes_text (Award scores) = line (codes "yes") ++ line_of (codes "vector") scores
-yes_text NoRoster = line (codes "yes none")

@@ -1,19 +1,18 @@
 //! What the program does: words and files in, one answer and its text out.
 #![tactic(auto)]
 
-mod answer;
 mod check;
+mod check_stop;
+mod check_text;
 mod command;
-mod file;
-mod month;
-mod reading;
+mod lines;
+mod month_ends;
+mod outcome;
 mod roster;
 mod runner;
 mod status;
-mod stop;
 #[cfg(test)]
 mod tests;
-mod text;
 mod text_fault;
 mod verdict;
 

@@ -3,43 +3,44 @@ ghost use Rattle.std.specs.Prelude.{◌≡◌, Some, map, string_bytes};
 ghost use Rattle.shelf.specs.Files.{Files as Told};
 ghost use Rattle.shelf.specs.Puts.{with_piece};
 ghost use Rattle.pbs_engine.specs.declared.status.Status.TheVariants.{Done};
-ghost use Rattle.pbs_engine.specs.Headline.{Stands, yes_text};
-ghost use Rattle.pbs_engine.specs.declared.answer.Answer.{Answer as Reply};
 ghost use Rattle.pbs_engine.specs.declared.verdict.Verdict.{Verdict as Shown};
-ghost use Rattle.pbs_engine.specs.Runs.{Answers, Said, RunCause};
-ghost use Rattle.pbs_engine.specs.StatusRows.{RunRow};
+ghost use Rattle.pbs_engine.specs.CheckTexts.{yes_text};
+ghost use Rattle.pbs_engine.specs.Handed.{FromTexts};
+ghost use Rattle.pbs_engine.specs.Headline.{Stands};
+ghost use Rattle.pbs_engine.specs.Rows.{IsQuiet, Rows};
+ghost use Rattle.pbs_engine.specs.Runs.{shelved, sunk, ComesTo, Says, Runs, RunCause};
+ghost use Rattle.pbs_engine.specs.Words.{command_in, WritesNothing};
 
-use crate::answer::Answer;
 use crate::check::check;
 use crate::command::Command;
+use crate::outcome::Outcome;
 use crate::status::Status;
-use crate::text::text_of;
 use shelf::{Shelf, Sink, SinkFault};
 use std::alloc::Global;
 
 /// What the words ask of the shelf.
-fn answer<S: Shelf>(alloc: Global, words: &[String], shelf: &mut S) -> Answer
-    ensures answered { Answers (map string_bytes words.now) (S.holds shelf.old) (S.tally shelf.old) (S.tally shelf.new) result }
-    ensures kept { S.holds shelf.new ≡ S.holds shelf.old }
+fn outcome<S: Shelf>(alloc: Global, words: &[String], shelf: &mut S) -> Outcome
+    ensures comes { ComesTo (map string_bytes words.now)
+        (shelved (S.holds shelf.old) (S.tally shelf.old) (S.log shelf.old))
+        (shelved (S.holds shelf.new) (S.tally shelf.new) (S.log shelf.new)) result }
 {
     match Command::from_words(words) {
-        None => Answer::Usage,
-        Some(Command::Check) => match check(alloc, shelf) {
-            Ok(verdict) => Answer::Accepted(verdict),
-            Err(stop) => Answer::Stopped(stop),
-        },
+        None => Outcome::Usage,
+        Some(Command::Check) => Outcome::Check(check(alloc, shelf)),
     }
 }
 
-/// Puts an answer's text, and says how the run ends.
-fn say<O: Sink>(alloc: Global, answer: &Answer, out: &mut O) -> Status
-    ensures said { Said answer.now (O.faults out.old) (O.faults out.new) (O.bytes out.old) (O.bytes out.new) result }
+/// Puts an outcome's text, and says how the run ends.
+#[tactic(auto, using(crate::proofs::Saying::was_put))]
+fn say<O: Sink>(alloc: Global, outcome: &Outcome, out: &mut O) -> Status
+    ensures says { Says outcome.now (sunk (O.faults out.old) (O.wants out.old) (O.bytes out.old))
+        (sunk (O.faults out.new) (O.wants out.new) (O.bytes out.new)) result }
 {
-    let Ok(text) = text_of(alloc, answer) else {
+    let Ok(text) = outcome.text(alloc) else {
         return Status::NoMemory;
     };
     match out.put(text.as_slice()) {
-        Ok(()) => answer.status(),
+        Ok(()) => outcome.status(),
         Err(SinkFault::PutFailed) => Status::WriteFault,
         Err(SinkFault::NoMemory) => Status::NoMemory,
     }
@@ -48,15 +49,20 @@ fn say<O: Sink>(alloc: Global, answer: &Answer, out: &mut O) -> Status
 /// Does what the words ask of the files, and puts the text that says what came of it.
 pub fn run<S: Shelf, O: Sink>(alloc: Global, words: &[String], shelf: &mut S, out: &mut O) -> Status
     ensures cause { RunCause (S.tally shelf.old) (S.tally shelf.new) (O.faults out.old) (O.faults out.new) result }
-    ensures answered { (a : Reply)
-        × Answers (map string_bytes words.now) (S.holds shelf.old) (S.tally shelf.old) (S.tally shelf.new) a
-        × Said a (O.faults out.old) (O.faults out.new) (O.bytes out.old) (O.bytes out.new) result }
-    ensures rows { (files : Told) → S.holds shelf.old ≡ Some files
-        → RunRow (map string_bytes words.now) files (O.bytes out.old) (O.bytes out.new) result }
+    ensures runs { Runs (map string_bytes words.now)
+        (shelved (S.holds shelf.old) (S.tally shelf.old) (S.log shelf.old))
+        (shelved (S.holds shelf.new) (S.tally shelf.new) (S.log shelf.new))
+        (sunk (O.faults out.old) (O.wants out.old) (O.bytes out.old))
+        (sunk (O.faults out.new) (O.wants out.new) (O.bytes out.new)) result }
+    ensures rows { (files : Told) → S.holds shelf.old ≡ Some files → Rows (map string_bytes words.now) files
+        (IsQuiet (S.tally shelf.old) (S.tally shelf.new) (O.faults out.old) (O.faults out.new)) result }
     ensures stands { (files : Told) → S.holds shelf.old ≡ Some files → result ≡ Done
-        → (verdict : Shown) × Stands files verdict × (O.bytes out.new ≡ with_piece (O.bytes out.old) (yes_text verdict)) }
-    ensures kept { S.holds shelf.new ≡ S.holds shelf.old }
+        → (shown : Shown) × Stands files shown × (O.bytes out.new ≡ with_piece (O.bytes out.old) (yes_text shown)) }
+    ensures stands_read { result ≡ Done → (shown : Shown)
+        × FromTexts (S.log shelf.old) (S.log shelf.new) (λ files. Stands files shown)
+        × (O.bytes out.new ≡ with_piece (O.bytes out.old) (yes_text shown)) }
+    ensures kept { WritesNothing (command_in (map string_bytes words.now)) → S.holds shelf.new ≡ S.holds shelf.old }
 {
-    let told = answer(alloc, words, shelf);
+    let told = outcome(alloc, words, shelf);
     say(alloc, &told, out)
 }

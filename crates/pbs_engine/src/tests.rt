@@ -5,13 +5,12 @@ mod faults;
 mod legality;
 mod months;
 
-use crate::month::read_month;
-use crate::reading::read_texts;
 use crate::{Status, run};
 use bid_language::print_bids;
 use certificates::*;
 use duty_calendar::{Copied, List};
 use faults::*;
+use month_files::{read_month, read_texts};
 use months::*;
 use roster_model::{Line, Problem};
 use shelf::{MemoryShelf, MemorySink};

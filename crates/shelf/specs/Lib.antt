@@ -2,6 +2,7 @@ pub mod Names
 pub mod Tallies
 pub mod Causes
 pub mod Files
+pub mod Logs
 pub mod Puts
 pub mod Streams
 pub mod MemoryShelf

@@ -4,6 +4,7 @@ use Rattle.std.specs.declared.alloc.Global.{Global}
 use Rattle.std.specs.BTreeMap.{BTreeMap}
 use Rattle.std.specs.FinMap as map_of
 use Rattle.shelf.specs.Files.{Files}
+use Rattle.shelf.specs.Logs.{Entries}
 use Rattle.shelf.specs.declared.memory_shelf.MemoryShelf.{MemoryShelf}
 use Rattle.shelf.specs.declared.tally.Tally.{Tally}
 
@@ -20,6 +21,10 @@ files_of s = files_in s.files
 
 abbrev pub tally_of : MemoryShelf → Tally
 tally_of s = s.tally
+
+-- what reads have handed in
+abbrev pub log_of : MemoryShelf → Entries
+log_of s = s.log.entries
 
 -- the numbers of the reads and writes that are to fail
 abbrev pub failing_of : MemoryShelf → List ℕ

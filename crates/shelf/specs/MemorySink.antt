@@ -9,6 +9,10 @@ bytes_of s = s.bytes.items
 abbrev pub faults_of : MemorySink → ℕ
 faults_of s = s.faults
 
+-- how often a put has found no memory
+abbrev pub wants_of : MemorySink → ℕ
+wants_of s = s.wants
+
 -- the numbers of the puts that are to fail
 abbrev pub failing_of : MemorySink → List ℕ
 failing_of s = s.failing

@@ -5,15 +5,22 @@ use Rattle.shelf.specs.declared.fault.SinkFault.{SinkFault}
 use Rattle.shelf.specs.declared.fault.SinkFault.TheVariants.{PutFailed, NoMemory}
 use Rattle.shelf.specs.Tallies.{Rose}
 
--- the count of failed puts rose
-pub record PutFails (before now : ℕ) : Type 0 where
+-- a count rose
+pub record Rises (before now : ℕ) : Type 0 where
   pub later : before ≤ now
   pub rose : Rose before now
 
+-- the count of failed puts
 abbrev pub PutCause : {T : Type 0} → ℕ → ℕ → Result T SinkFault → Type 0
 PutCause before now (Ok _) = now ≡ before
-PutCause before now (Err PutFailed) = PutFails before now
+PutCause before now (Err PutFailed) = Rises before now
 PutCause before now (Err NoMemory) = now ≡ before
+
+-- the count of puts that found no memory
+abbrev pub PutWants : {T : Type 0} → ℕ → ℕ → Result T SinkFault → Type 0
+PutWants before now (Ok _) = now ≡ before
+PutWants before now (Err PutFailed) = now ≡ before
+PutWants before now (Err NoMemory) = Rises before now
 
 -- the bytes and then a piece, where bytes are told
 abbrev pub with_piece : Option (List ℕ) → List ℕ → Option (List ℕ)

@@ -1,8 +1,9 @@
 //! The files of a folder.
-ghost use Rattle.std.specs.Prelude.{◌≡◌, None};
+ghost use Rattle.std.specs.Prelude.{◌≡◌, [], None};
 ghost use Rattle.shelf.specs.Tallies.{no_faults};
 
 use crate::fault::ShelfFault;
+use crate::log::Log;
 use crate::streams::{Unread, read_rest, write_rest};
 use crate::tally::Tally;
 use crate::traits::Shelf;
@@ -17,19 +18,22 @@ pub struct FolderShelf<'a, R> {
     files: &'a R,
     folder: String,
     tally: Tally,
+    log: Log,
 }
 
 impl<'a, R: Files> FolderShelf<'a, R> {
-    ghost use Rattle.shelf.specs.FolderShelf.{tally_of};
+    ghost use Rattle.shelf.specs.FolderShelf.{tally_of, log_of};
 
     /// Nothing has gone wrong. An empty folder is the one that the program runs in.
     pub fn new(files: &'a R, folder: String) -> Self
         ensures tally { tally_of result ≡ no_faults }
+        ensures log { log_of result ≡ [] }
     {
         FolderShelf {
             files,
             folder,
             tally: Tally::new(),
+            log: Log::new(),
         }
     }
 
@@ -51,11 +55,13 @@ fn unopened(error: io::Error) -> Unread {
 }
 
 impl<R: Files> Shelf for FolderShelf<'_, R> {
-    ghost use Rattle.shelf.specs.FolderShelf.{tally_of};
+    ghost use Rattle.shelf.specs.FolderShelf.{tally_of, log_of};
 
     ghost holds = { λ _. None };
 
     ghost tally = { tally_of };
+
+    ghost log = { log_of };
 
     fn read(&mut self, alloc: Global, name: &str, limit: u64) -> Result<Vec<u8>, ShelfFault> {
         let path = self.path(alloc, name)?;
@@ -64,7 +70,10 @@ impl<R: Files> Shelf for FolderShelf<'_, R> {
             Err(error) => Err(unopened(error)),
         };
         match read {
-            Ok(bytes) => Ok(bytes),
+            Ok(bytes) => {
+                self.log.note(name.as_bytes(), &bytes);
+                Ok(bytes)
+            }
             Err(Unread::NoMemory) => Err(ShelfFault::NoMemory),
             Err(Unread::Missing) => {
                 self.tally.missed(name);

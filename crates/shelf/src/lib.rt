@@ -4,6 +4,7 @@
 
 mod fault;
 mod folder_shelf;
+mod log;
 mod memory_shelf;
 mod memory_sink;
 mod out_sink;
@@ -14,6 +15,7 @@ mod traits;
 
 pub use fault::{ShelfFault, SinkFault};
 pub use folder_shelf::FolderShelf;
+pub use log::Log;
 pub use memory_shelf::MemoryShelf;
 pub use memory_sink::MemorySink;
 pub use out_sink::OutSink;

@@ -5,9 +5,11 @@ ghost use Rattle.std.specs.FinMap as map;
 ghost use Rattle.shelf.specs.Names.{IsName};
 ghost use Rattle.shelf.specs.Causes.{ReadCause, WriteCause};
 ghost use Rattle.shelf.specs.Files.{file, IsRead, SameButAt};
+ghost use Rattle.shelf.specs.Logs.{with_read};
 ghost use Rattle.shelf.specs.Tallies.{no_faults};
 
 use crate::fault::ShelfFault;
+use crate::log::Log;
 use crate::tally::Tally;
 use crate::traits::Shelf;
 use duty_calendar::{List, Memory};
@@ -20,24 +22,27 @@ use std::collections::BTreeMap;
 pub struct MemoryShelf {
     files: BTreeMap<String, Vec<u8>>,
     tally: Tally,
+    log: Log,
     failing: List<u64>,
     calls: u64,
 }
 
 #[tactic(auto, using(crate::proofs::Stored::file_files_in, crate::proofs::Stored::files_in_insert))]
 impl MemoryShelf {
-    ghost use Rattle.shelf.specs.MemoryShelf.{files_of, tally_of, failing_of, calls_of, next_call};
+    ghost use Rattle.shelf.specs.MemoryShelf.{files_of, tally_of, log_of, failing_of, calls_of, next_call};
 
     /// No file is there, and nothing has gone wrong.
     pub fn new(alloc: Global, failing: List<u64>) -> MemoryShelf
         ensures files { files_of result ≡ map.empty }
         ensures tally { tally_of result ≡ no_faults }
+        ensures log { log_of result ≡ [] }
         ensures failing { failing_of result ≡ failing }
         ensures calls { calls_of result ≡ 0 }
     {
         MemoryShelf {
             files: BTreeMap::new(alloc),
             tally: Tally::new(),
+            log: Log::new(),
             failing,
             calls: 0,
         }
@@ -50,6 +55,7 @@ impl MemoryShelf {
             (files_of self.new ≡ map.insert (files_of self.old) name.now bytes.now) }
         ensures err { OnErr result (files_of self.new ≡ files_of self.old) }
         ensures tally { tally_of self.new ≡ tally_of self.old }
+        ensures log { log_of self.new ≡ log_of self.old }
         ensures failing { failing_of self.new ≡ failing_of self.old }
         ensures calls { calls_of self.new ≡ calls_of self.old }
     {
@@ -80,12 +86,14 @@ impl MemoryShelf {
 
 #[tactic(auto, using(crate::proofs::Stored::file_files_in, crate::proofs::Others::same_but_at))]
 impl Shelf for MemoryShelf {
-    ghost use Rattle.shelf.specs.MemoryShelf.{files_of, tally_of, failing_of, calls_of, next_call};
+    ghost use Rattle.shelf.specs.MemoryShelf.{files_of, tally_of, log_of, failing_of, calls_of, next_call};
     ghost use Rattle.shelf.specs.declared.fault.ShelfFault.TheVariants.{ReadFailed, WriteFailed};
 
     ghost holds = { λ s. Some (files_of s) };
 
     ghost tally = { tally_of };
+
+    ghost log = { log_of };
 
     fn read(&mut self, alloc: Global, name: &str, limit: u64) -> Result<Vec<u8>, ShelfFault>
         requires name { IsName name.now }
@@ -93,6 +101,7 @@ impl Shelf for MemoryShelf {
         ensures limit { IfOk result (λ bytes. vec_len bytes ≤ limit) }
         ensures told { IsRead (files_of self.old) name.now limit result }
         ensures kept { files_of self.new ≡ files_of self.old }
+        ensures logged { log_of self.new ≡ with_read (log_of self.old) name.now result }
 
         // A call fails where its number is in the list, so none does where the list is empty.
         ensures fails { IsErrOf result ReadFailed
@@ -113,7 +122,11 @@ impl Shelf for MemoryShelf {
                 self.tally.found_long(name);
                 Err(ShelfFault::TooLong)
             }
-            Some(bytes) => Ok(bytes.to_vec(alloc)?),
+            Some(bytes) => {
+                let bytes = bytes.to_vec(alloc)?;
+                self.log.note(name.as_bytes(), &bytes);
+                Ok(bytes)
+            }
         }
     }
 
@@ -123,6 +136,7 @@ impl Shelf for MemoryShelf {
         ensures written { OnOk result
             (files_of self.new ≡ map.insert (files_of self.old) name.now bytes.now) }
         ensures others { SameButAt name.now (Some (files_of self.old)) (Some (files_of self.new)) }
+        ensures unlogged { log_of self.new ≡ log_of self.old }
         ensures unwritten { OnErr result (files_of self.new ≡ files_of self.old) }
 
         // A call fails where its number is in the list, so none does where the list is empty.

@@ -1,7 +1,7 @@
 //! A sink over any writer.
 ghost use Rattle.std.specs.Prelude.{◌≡◌, None, OnOk, OnErr};
 ghost use Rattle.std.specs.Io.KnownBytes.{Appends};
-ghost use Rattle.shelf.specs.Puts.{PutCause};
+ghost use Rattle.shelf.specs.Puts.{PutCause, PutWants};
 ghost use Rattle.shelf.specs.Streams.{TakesFront};
 
 use crate::fault::SinkFault;
@@ -35,8 +35,11 @@ impl<W: Write> Sink for OutSink<W> {
 
     ghost faults = { faults_of };
 
+    ghost wants = { λ _. 0 };
+
     fn put(&mut self, piece: &[u8]) -> Result<(), SinkFault>
         ensures cause { PutCause (faults_of self.old) (faults_of self.new) result }
+        ensures wanted { PutWants 0 0 result }
         ensures whole { OnOk result (Appends (W.contents (writer_of self.old))
             (W.contents (writer_of self.new)) piece.now) }
         ensures front { OnErr result (TakesFront piece.now (W.contents (writer_of self.old))

@@ -5,6 +5,7 @@ ghost use Rattle.shelf.specs.declared.tally.Tally.{Tally};
 ghost use Rattle.shelf.specs.Names.{IsName};
 ghost use Rattle.shelf.specs.Causes.{ReadCause, WriteCause};
 ghost use Rattle.shelf.specs.Files.{Files, IsRead, SameButAt, with_file};
+ghost use Rattle.shelf.specs.Logs.{Entries, with_read};
 
 use crate::fault::ShelfFault;
 use std::alloc::Global;
@@ -17,13 +18,17 @@ pub trait Shelf {
     /// What has gone wrong so far.
     ghost tally: { Self → Tally };
 
+    /// What reads have handed in so far: the name and the bytes of each read that answered Ok, in order.
+    ghost log: { Self → Entries };
+
     /// The bytes of a file, if they are at most `limit`.
     fn read(&mut self, alloc: Global, name: &str, limit: u64) -> Result<Vec<u8>, ShelfFault>
         requires name { IsName name.now }
         ensures cause { ReadCause name.now (tally self.old) (tally self.new) result }
         ensures limit { IfOk result (λ bytes. vec_len bytes ≤ limit) }
         ensures told { ForSome (holds self.old) (λ files. IsRead files name.now limit result) }
-        ensures kept { holds self.new ≡ holds self.old };
+        ensures kept { holds self.new ≡ holds self.old }
+        ensures logged { log self.new ≡ with_read (log self.old) name.now result };
 
     /// Gives a file these bytes. After an `Err` that file may hold anything.
     fn write(&mut self, alloc: Global, name: &str, bytes: &[u8]) -> Result<(), ShelfFault>
@@ -31,5 +36,6 @@ pub trait Shelf {
         ensures cause { WriteCause name.now (tally self.old) (tally self.new) result }
         ensures written { OnOk result
             (holds self.new ≡ with_file (holds self.old) name.now bytes.now) }
-        ensures others { SameButAt name.now (holds self.old) (holds self.new) };
+        ensures others { SameButAt name.now (holds self.old) (holds self.new) }
+        ensures unlogged { log self.new ≡ log self.old };
 }

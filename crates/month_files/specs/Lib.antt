@@ -1,0 +1,4 @@
+pub mod FileNames
+pub mod Reading
+pub mod Handing
+pub mod Months

@@ -1,0 +1,61 @@
+//! Lines of text.
+ghost use Rattle.std.specs.Prelude.{◌≡◌, [], ◌∷◌, ◌++◌, decimal, IfOk, OnOk};
+ghost use Rattle.month_files.specs.FileNames.{name_of};
+ghost use Rattle.pbs_engine.specs.Lines.{line, line_of, numbers};
+
+use duty_calendar::{List, Memory};
+use field_text::put_bytes;
+use itoa::Buffer;
+use month_files::File;
+use std::alloc::Global;
+
+/// Appends a number.
+pub fn put_count(out: &mut List<u8>, number: u64) -> Result<(), Memory>
+    ensures whole { OnOk result (out.new ≡ out.old ++ decimal number) }
+{
+    let mut buffer = Buffer::new();
+    put_bytes(out, buffer.format(number).as_bytes())
+}
+
+/// Appends each number behind a space.
+pub fn put_numbers(out: &mut List<u8>, list: &[u64]) -> Result<(), Memory>
+    ensures whole { OnOk result (out.new ≡ out.old ++ numbers list.now) }
+{
+    for number in list {
+        put_bytes(out, b" ")?;
+        put_count(out, *number)?;
+    }
+    Ok(())
+}
+
+/// One line.
+pub fn line_text(alloc: Global, text: &[u8]) -> Result<List<u8>, Memory>
+    ensures value { IfOk result (λ t. t ≡ line text.now) }
+{
+    let mut out = List::new(alloc);
+    put_bytes(&mut out, text)?;
+    put_bytes(&mut out, b"\n")?;
+    Ok(out)
+}
+
+/// A line of a word and numbers.
+pub fn numbered(alloc: Global, word: &[u8], list: &[u64]) -> Result<List<u8>, Memory>
+    ensures value { IfOk result (λ t. t ≡ line_of word.now list.now) }
+{
+    let mut out = List::new(alloc);
+    put_bytes(&mut out, word)?;
+    put_numbers(&mut out, list)?;
+    put_bytes(&mut out, b"\n")?;
+    Ok(out)
+}
+
+/// A line of a word and a file's name.
+pub fn named(alloc: Global, word: &[u8], file: File) -> Result<List<u8>, Memory>
+    ensures value { IfOk result (λ t. t ≡ line (word.now ++ name_of file)) }
+{
+    let mut out = List::new(alloc);
+    put_bytes(&mut out, word)?;
+    put_bytes(&mut out, file.name().as_bytes())?;
+    put_bytes(&mut out, b"\n")?;
+    Ok(out)
+}
