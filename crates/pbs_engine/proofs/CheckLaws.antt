@@ -12,7 +12,7 @@ use Rattle.roster_model.specs.Closing.{Closes}
 use Rattle.roster_model.specs.Rosters.{scores_of}
 use Rattle.cert_checker.specs.declared.refusal.No.{No}
 use Rattle.cert_checker.specs.declared.refusal.No.TheVariants as no
-use Rattle.cert_checker.specs.Awards.{IsFirstNo, NamesFault}
+use Rattle.cert_checker.specs.Awards.{PlacesFail, NamesFault}
 use Rattle.cert_checker.specs.Stops.{Stops}
 use Rattle.cert_text.specs.declared.fault.CertCode.{CertCode}
 use Rattle.cert_text.specs.declared.fault.CertCode.TheVariants as cert
@@ -139,7 +139,7 @@ module _ (files : Files) (problem : Problem) (awarded : Awarded) (named : NamesC
         award_accepted scores best greatest are =
             record { problem = problem; awarded = awarded; roster = roster; named = all; best = best; greatest = greatest; scores_are = are }
 
-        pub award_refused : (why : No) → IsFirstNo problem roster awarded.proofs why → (NamesFault why → IsBest problem roster awarded.proofs → ⊥) → IsCheck files (Err (judge_stop why))
+        pub award_refused : (why : No) → PlacesFail problem roster awarded.proofs why → (NamesFault why → IsBest problem roster awarded.proofs → ⊥) → IsCheck files (Err (judge_stop why))
         award_refused no.NoMemory first refused = tt
         award_refused (no.Member m why) first refused =
             inl (record { problem = problem; awarded = awarded; roster = roster; named = all; known = λ (e : no.Member m why ≡ no.NoMemory). absurd cc; first = first; not_best = refused tt })

@@ -21,7 +21,7 @@ use Rattle.roster_model.specs.Awards.{IsBest, IsGreatest, HasNoRoster, no_goal}
 use Rattle.roster_model.specs.Closing.{Closes}
 use Rattle.roster_model.specs.Rosters.{scores_of}
 use Rattle.cert_checker.specs.declared.refusal.No.{No}
-use Rattle.cert_checker.specs.Awards.{IsFirstNo, NamesFault}
+use Rattle.cert_checker.specs.Awards.{PlacesFail, NamesFault}
 use Rattle.cert_checker.specs.Stops.{Stops}
 use Rattle.cert_text.specs.declared.fault.CertCode.{CertCode}
 use Rattle.cert_text.specs.declared.fault.CertFault.{CertFault}
@@ -151,7 +151,7 @@ module _ (old log : Entries) (problem : Problem) (awarded : Awarded) (read : Han
           (award_accepted (holding (all_texts old log new problem (Award awarded) read text logged le)) problem awarded
           (all_named old log new problem (Award awarded) read text logged le) none text (roster_held old log new problem (Award awarded) read text logged le) roster is scores best greatest are)
 
-      pub handed_refused : (why : No) → IsFirstNo problem roster awarded.proofs why → (NamesFault why → IsBest problem roster awarded.proofs → ⊥) → IsHanded old new (Err (judge_stop why))
+      pub handed_refused : (why : No) → PlacesFail problem roster awarded.proofs why → (NamesFault why → IsBest problem roster awarded.proofs → ⊥) → IsHanded old new (Err (judge_stop why))
       handed_refused why first refused =
           handed_all old log new problem (Award awarded) read text logged le (Err (judge_stop why))
           (award_refused (holding (all_texts old log new problem (Award awarded) read text logged le)) problem awarded

@@ -14,7 +14,7 @@ use Rattle.cert_text.specs.declared.fault.CertFault.{CertFault}
 use Rattle.cert_text.specs.Reading.{certificate_in}
 use Rattle.cert_checker.specs.declared.refusal.No.{No}
 use Rattle.cert_checker.specs.declared.refusal.No.TheVariants.{NoMemory as NoRoom}
-use Rattle.cert_checker.specs.Awards.{IsFirstNo}
+use Rattle.cert_checker.specs.Awards.{PlacesFail}
 use Rattle.cert_checker.specs.Stops.{Stops}
 use Rattle.month_files.specs.declared.fault.BadInput.{BadInput}
 use Rattle.month_files.specs.declared.fault.BadInput.TheVariants as bad
@@ -127,7 +127,7 @@ pub record AwardIsRefused (files : Files) (why : No) : Type 0 where
   pub roster : List (List ℕ)
   pub named : NamesAll files problem awarded roster
   pub known : why ≢ NoRoom
-  pub first : IsFirstNo problem roster awarded.proofs why
+  pub first : PlacesFail problem roster awarded.proofs why
   pub not_best : IsBest problem roster awarded.proofs → ⊥
 
 -- the proof closes the goal of nothing, so that there is no complete roster

@@ -1,7 +1,7 @@
 //! The command `check`.
 ghost use Rattle.std.specs.Prelude.{◌≡◌, ◌≤◌, ◌++◌, true, [], IfOk, IfErr, OnOk, length};
 ghost use Rattle.std.specs.Option.{ForSome};
-ghost use Rattle.cert_checker.specs.Awards.{IsFirstNo, NamesFault};
+ghost use Rattle.cert_checker.specs.Awards.{PlacesFail, NamesFault};
 ghost use Rattle.cert_text.specs.Limits.{is_certificate};
 ghost use Rattle.month_files.specs.FileNames.{limit_of};
 ghost use Rattle.month_files.specs.declared.file.File.TheVariants.{Certificate as CertificateFile};
@@ -18,7 +18,7 @@ ghost use Rattle.pbs_engine.specs.RosterText.{IsRoster};
 use crate::check_stop::CheckStop;
 use crate::roster::read_roster;
 use crate::verdict::Verdict;
-use cert_checker::{No, judge, judge_none, scores_of};
+use cert_checker::{No, judge_none, judge_places};
 use cert_text::read_certificate;
 use duty_calendar::List;
 use month_files::{File, Texts, Unread, read_file, read_month, read_texts};
@@ -51,20 +51,14 @@ fn award_scores(
 ) -> Result<List<u32>, No>
     requires roster { IsRoster problem.now roster.now }
     requires limits { is_certificate (AwardForm awarded.now) ≡ true }
-    requires none_shown { awarded.now.shown ≡ [] }
     ensures accepted { OnOk result (IsBest problem.now roster.now awarded.now.proofs) }
     ensures greatest { OnOk result (IsGreatest problem.now roster.now) }
     ensures value { IfOk result (λ scores. scores ≡ scores_of problem.now roster.now) }
-    ensures first { IfErr result (IsFirstNo problem.now roster.now awarded.now.proofs) }
+    ensures first { IfErr result (PlacesFail problem.now roster.now awarded.now.proofs) }
     ensures refused { IfErr result (λ why. NamesFault why
         → IsBest problem.now roster.now awarded.now.proofs → ⊥) }
 {
-    let reasons = List::new(alloc);
-    judge(alloc, problem, roster, &reasons, awarded)?;
-    let Ok(scores) = scores_of(alloc, problem, roster) else {
-        return Err(No::NoMemory);
-    };
-    Ok(scores)
+    judge_places(alloc, problem, roster, &awarded.proofs)
 }
 
 /// What comes of a certificate in the form of an award, over the roster in the folder.
