@@ -42,8 +42,11 @@ head words = do
   bits ← first grain.1
   free30 ← first bits.1
   days ← first free30.1
-  Ok (pair (pair (number LAST_MINUTE grain.0) (tracked bits.0))
-      (pair (flag free30.0) (flag days.0)), days.1)
+  Ok (
+    pair (pair (number LAST_MINUTE grain.0) (tracked bits.0))
+        (pair (flag free30.0) (flag days.0)),
+    days.1,
+  )
 
 unfoldable pub lens : List (List ℕ) → Result Lens Flaw
 lens words = do

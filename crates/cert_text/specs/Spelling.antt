@@ -84,7 +84,7 @@ rows_of (Some rows) = rows
 abbrev pub shown_text : Shown → List ℕ
 shown_text s =
     line_text (codes "shown") (flag_text (has_proof s.proof)
-        ∷ (decimal (length (rows_of s.roster)) ∷ []))
+    ∷ (decimal (length (rows_of s.roster)) ∷ []))
     ++ shown_proof_text s.proof ++ flat_map row_text (rows_of s.roster)
 
 abbrev pub awarded_text : Awarded → List ℕ

@@ -2,8 +2,8 @@
 use Rattle.std.specs.Prelude.{◌≡◌, Option, Result, Ok, Err, MatchOption}
 
 -- The value, seen by `view`, is the one that reading gives, and a fault is reading's fault.
--- What an error tells is the fault that it names, or nothing where memory ran out: then `Lost` holds
--- of it.
+-- What an error tells is the fault that it names, or nothing where memory ran out: then `Lost`
+-- holds of it.
 abbrev pub GivesOr : {X Y E F : Type 0} → (E → Option F) → (E → Type 0) → (X → Y) → Result X E
     → Result Y F → Type 0
 GivesOr told Lost view (Ok x) read = read ≡ Ok (view x)

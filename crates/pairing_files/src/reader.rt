@@ -44,8 +44,8 @@ fn read_files(
     read_leg_file(alloc, tables, legs, horizon)
 }
 
-/// The pairings of the three files in the order of the first, or the first fault. Rows count from 1,
-/// the header's. Where memory runs out the fault has row 0 and names the file that was read then.
+/// The pairings of the three files in the order of the first, or the first fault. Rows count from
+/// 1, the header's. Where memory runs out the fault has row 0 and names the file that was read.
 pub fn read_pairings(
     alloc: Global,
     pairings: &[u8],

@@ -1,6 +1,5 @@
 -- How a text reads as rules, and its first fault.
-use Rattle.std.specs.Prelude.{◌≡◌, ℕ, ◌≤◌, List, length, Bool, codes, nat_le, nat_lt, ℤ, pos, negsuc, ◌&&◌, ◌||◌, ◌==◌, Option, Some, None, option_and_then, Result, Ok, Err, IfSome, if◌then◌else◌, IsTrue}
-use Rattle.std.specs.List.{list_all}
+use Rattle.std.specs.Prelude.{◌≡◌, ℕ, List, length, Bool, codes, nat_le, nat_lt, ℤ, pos, negsuc, ◌&&◌, ◌==◌, Option, Some, None, option_and_then, Result, Ok, Err, IfSome, if◌then◌else◌}
 use Rattle.std.specs.Str.{is_utf8}
 use Rattle.duty_calendar.specs.Forms.{are_capitals, is_seat}
 use Rattle.duty_calendar.specs.declared.member.Rules.{Rules}

@@ -12,7 +12,7 @@ number_line key number = key ++ (codes " = " ++ (signed_decimal number ++ codes 
 unfoldable pub rules_text : Values → List ℕ
 rules_text v =
     text_line (codes "base") v.base ++ (text_line (codes "seat") v.seat
-        ++ (number_line (codes "year") v.year
+    ++ (number_line (codes "year") v.year
     ++ (number_line (codes "month") (pos v.month)
-        ++ (number_line (codes "offset") v.offset
-        ++ number_line (codes "days_off") (pos v.days_off)))))
+    ++ (number_line (codes "offset") v.offset
+    ++ number_line (codes "days_off") (pos v.days_off)))))
