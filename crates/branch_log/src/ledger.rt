@@ -1,5 +1,5 @@
 //! The ledger of open nodes.
-ghost use Rattle.std.specs.Prelude.{◌≡◌, ◌↔◌, true, ◌+◌, ◌<◌, ◌≤◌, ◌^◌, [], ◌∷◌, ◌++◌, reverse, length, IfOk, OnErr, OnOk, IfErr};
+ghost use Rattle.std.specs.Prelude.{◌≡◌, ◌↔◌, true, ◌<◌, ◌≤◌, ◌^◌, [], ◌∷◌, ◌++◌, reverse, length, IfOk, OnErr, OnOk, IfErr};
 ghost use Rattle.roster_model.specs.Ledgers.{MayFollow};
 ghost use Rattle.branch_log.specs.Book.{Book, IsOrderly};
 

@@ -1,12 +1,11 @@
 //! The search at a closer of one type, over a month of one member without bids and one pairing.
-ghost use Rattle.std.specs.Prelude.{◌≡◌, ◌+◌, ◌<◌, ◌≤◌, ◌∷◌, [], ℕ, Some, length, slice_get, IfOk, IfSome, IsTrue};
+ghost use Rattle.std.specs.Prelude.{◌≡◌, ◌≤◌, ◌∷◌, [], ℕ, Some, length, slice_get, IfOk, IfSome, IsTrue};
 ghost use Rattle.duty_calendar.specs.Calendar.{month_days};
 ghost use Rattle.duty_calendar.specs.declared.horizon.Horizon.{Horizon as Month};
 ghost use Rattle.duty_calendar.specs.Forms.{is_name, is_station_code};
 ghost use Rattle.duty_calendar.specs.Checks.{IsDuty, IsRules, IsPairing, IsMember};
 ghost use Rattle.roster_model.specs.Rosters.{need_of};
 ghost use Rattle.roster_model.specs.Scores.{bids_of};
-ghost use Rattle.roster_model.specs.Goals.{IsGoal};
 
 use crate::{Finding, search};
 use branch_log::{Closer, Ledger, Verdict};
@@ -21,7 +20,7 @@ use std::alloc::Global;
 struct Lone;
 
 impl Closer for Lone {
-    ghost use Rattle.std.specs.Prelude.{◌≡◌, ◌↔◌, ℕ, [], length, IfOk};
+    ghost use Rattle.std.specs.Prelude.{◌≡◌, ℕ, [], length};
     ghost use Rattle.roster_model.specs.Rosters.{need_of};
     ghost use Rattle.roster_model.specs.Scores.{bids_of};
 

@@ -1,14 +1,13 @@
 //! The walk over the nodes of a search, depth first.
-ghost use Rattle.std.specs.Prelude.{◌≡◌, ◌≢◌, ◌↔◌, ℕ, true, false, Some, slice_get, ◌≤◌, ◌<◌, ◌+◌, ◌*◌, ◌^◌, [], ◌∷◌, ◌++◌, length, OnOk, OnErr, IfOk};
+ghost use Rattle.std.specs.Prelude.{◌≡◌, ◌≢◌, ◌↔◌, ◌+◌, ◌<◌, ◌≤◌, true, Some, [], ◌∷◌, ◌++◌, length, slice_get, IfOk, OnOk, OnErr};
 ghost use Rattle.roster_model.specs.declared.problem.Problem.{Problem};
-ghost use Rattle.roster_model.specs.Decided.{decided, is_decided};
-ghost use Rattle.roster_model.specs.Closing.{IsOpenPair};
+ghost use Rattle.roster_model.specs.Decided.{decided};
 ghost use Rattle.roster_model.specs.Goals.{IsGoal};
 ghost use Rattle.roster_model.specs.OpenNodes.{IsOpenNode};
+ghost use Rattle.roster_model.specs.Ledgers.{Each};
 ghost use Rattle.branch_log.specs.Book.{IsOrderly};
-ghost use Rattle.completion_search.specs.Found.{IsFinding, AddsSearch, HasFewSplits, IsNotSpent};
-ghost use Rattle.roster_model.specs.Ledgers.{Each, pairs_of};
-ghost use Rattle.completion_search.specs.Path.{IsAt, HasGrown};
+ghost use Rattle.completion_search.specs.Found.{IsFinding, AddsSearch, AddsFewEntries, FitsSearch, HasFewSplits, IsNotSpent};
+ghost use Rattle.completion_search.specs.Path.{IsAt, IsAboveFlown, HasGrown};
 
 use branch_log::{Closer, Ledger, Verdict};
 use duty_calendar::{Copied, List, Memory};
@@ -42,8 +41,8 @@ pub fn search<C: Closer>(
     requires searches { length ledger.old.goals ≤ 4000000000 }
     ensures found { IfOk result (IsFinding problem.now goal.now ledger.new) }
     ensures adds { AddsSearch problem.now goal.now ledger.old ledger.new }
-    ensures few { length ledger.new.entries + 1 ≤ length ledger.old.entries + 2 ^ pairs_of problem.now }
-    ensures enough { length ledger.old.entries + 2 ^ pairs_of problem.now ≤ ledger.old.cap → IfOk result IsNotSpent }
+    ensures few { AddsFewEntries problem.now ledger.old ledger.new }
+    ensures enough { FitsSearch problem.now ledger.old → IfOk result IsNotSpent }
     ensures short { IfOk result (HasFewSplits ledger.old ledger.new) }
     ensures rounds { C.rounds closer.new ≡ C.rounds closer.old }
     ensures fits { (other : Problem) → C.fits closer.new other ↔ C.fits closer.old other }
@@ -132,7 +131,7 @@ fn count_node(
     requires is_open { IsOpenNode problem.now ledger.old.rounds goal.now node.now }
     ensures grown { HasGrown problem.now number ledger.old ledger.new }
     ensures one { length ledger.new.entries ≡ length ledger.old.entries + 1 }
-    ensures below { IfOk result (λ _. (m p : ℕ) → IsOpenPair problem.now node.now m p → IsAt problem.now ledger.new.entries number (decided node.now m p true) parents.new.items) }
+    ensures below { OnOk result (IsAboveFlown problem.now ledger.new.entries number node.now parents.new.items) }
 {
     parents.truncate(node.len());
     let entry = Entry {

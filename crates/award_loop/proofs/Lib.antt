@@ -1,0 +1,4 @@
+pub mod Steps
+pub mod Raising
+pub mod Climbing
+pub mod Idle
