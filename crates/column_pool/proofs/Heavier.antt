@@ -1,5 +1,5 @@
 -- The test of a line by the standard lens, and the weight of the heaviest line so far.
-use Rattle.std.proofs.Common.{◌≡◌, ◌↔◌, ◌+◌, ◌<◌, true, Bool, IsTrue, ℕ, ℤ, ◌≤ℤ◌, List, Option, Some, None, Result, Ok, Err, subst, sym, ◌∙◌, arith, inl, inr}
+use Rattle.std.proofs.Common.{◌≡◌, ◌↔◌, ◌+◌, true, Bool, IsTrue, ℕ, ℤ, ◌≤ℤ◌, List, Option, Some, None, Result, Ok, Err, subst, sym, arith, inl, inr}
 use Rattle.std.specs.Prelude.{IfOk}
 use Rattle.std.proofs.lemmas.Bool.{cases_lt}
 use Rattle.std.proofs.lemmas.Int.{ints, by_lt_z}

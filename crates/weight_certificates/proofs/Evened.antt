@@ -1,6 +1,6 @@
 -- Rounds of heaviest lines: one more, and what a round says that weighs less than the needs.
-use Rattle.std.proofs.Common.{◌≡◌, ℕ, zero, suc, ◌+◌, ◌*◌, ◌<◌, ◌≤◌, List, [], ◌∷◌, ◌++◌, length, length-append, take, drop, get_or, refl, ap, sym, subst, ◌∙◌, arith, inl, inr, Some, true}
-use Rattle.std.specs.Prelude.{ℤ, pos, neg_ℤ, ◌+ℤ◌, ◌-ℤ◌, ◌*ℤ◌, ◌≤ℤ◌, ◌<ℤ◌, unsigned_abs, All, map, replicate, slice_get, Option}
+use Rattle.std.proofs.Common.{◌≡◌, ℕ, zero, suc, ◌+◌, ◌<◌, ◌≤◌, List, [], ◌∷◌, ◌++◌, length, length-append, take, drop, get_or, refl, ap, sym, subst, ◌∙◌, arith, inl, inr, Some}
+use Rattle.std.specs.Prelude.{ℤ, pos, neg_ℤ, ◌+ℤ◌, ◌-ℤ◌, ◌*ℤ◌, ◌≤ℤ◌, ◌<ℤ◌, All, map, replicate, slice_get, Option}
 use Rattle.std.specs.Option.{option_map}
 use Rattle.std.proofs.lemmas.Bool.{cases_lt}
 use Rattle.std.proofs.lemmas.Int.{ints}
@@ -13,11 +13,10 @@ use Rattle.roster_model.specs.declared.goal.Goal.{Goal}
 use Rattle.roster_model.specs.declared.node.Decision.{Decision}
 use Rattle.roster_model.specs.declared.proof.Lens.{Lens}
 use Rattle.roster_model.specs.Rosters.{line_at}
-use Rattle.roster_model.specs.Lenses.{HasNoLine, IsLensLine, IsOutweighed, IsStandardLens}
-use Rattle.roster_model.specs.Rounds.{IsRound, IsStandardLine, HasEvenRounds, miss_of, missed, squares_of, squared_misses}
-use Rattle.roster_model.specs.Weights.{AreSmallWeights, weight_at, weight_of, needed_weight, total, sum_below}
-use Rattle.roster_model.proofs.Integers.{mul-comm}
-use Rattle.roster_model.proofs.Rounds.{missed-append, squared_misses-append, even-none, even-append, miss-weight}
+use Rattle.roster_model.specs.Lenses.{HasNoLine, IsLensLine, IsOutweighed}
+use Rattle.roster_model.specs.Rounds.{IsRound, miss_of, missed}
+use Rattle.roster_model.specs.Weights.{AreSmallWeights, weight_at, weight_of, total}
+use Rattle.roster_model.proofs.Rounds.{missed-append, even-none, even-append, miss-weight}
 use Rattle.roster_model.proofs.Standard.{standard-passes}
 use Rattle.roster_model.proofs.Sums.{product_of, sum_below-same, product-comm, product-neg}
 use Rattle.roster_model.proofs.WeightSums.{total_weight}
@@ -25,7 +24,7 @@ use Rattle.weight_certificates.specs.Rows as rows
 use Rattle.weight_certificates.specs.Rows.{AreWithin}
 use Rattle.weight_certificates.specs.Columns.{IsHeavyEnough}
 use Rattle.weight_certificates.specs.Pricing.{AreHeaviest, AreStandard, IsHeaviestLine, IsWithoutLine}
-use Rattle.weight_certificates.specs.Evidence.{AreSummed, HaveEvened, HasLastRound}
+use Rattle.weight_certificates.specs.Evidence.{HaveEvened, HasLastRound}
 
 -- weights that rounds give are small
 pub small_weights : (weights : List ℤ) → AreWithin 400000 weights → AreSmallWeights weights

@@ -8,10 +8,6 @@ use Rattle.std.proofs.lemmas.List.Quantifiers.{all_pairs_push}
 use Rattle.duty_calendar.specs.declared.horizon.Horizon.{Horizon}
 use Rattle.duty_calendar.specs.declared.member.Member.{Member}
 use Rattle.duty_calendar.specs.declared.pairing.Pairing.{Pairing}
-use Rattle.roster_model.specs.declared.node.Decision.{Decision}
-use Rattle.roster_model.specs.declared.problem.Problem.{Problem}
-use Rattle.roster_model.specs.Decided.{HasNoPairTwice}
-use Rattle.roster_model.specs.Goals.{IsNode}
 use Rattle.duty_calendar.specs.Checks.{AreMembers, ArePairings, IsMember, IsPairing}
 
 no_pairs : {X : Type 0} (R : X → X → Type 0) → AllPairs R []

@@ -4,7 +4,7 @@ use Rattle.roster_model.specs.declared.problem.Problem.{Problem}
 use Rattle.roster_model.specs.declared.goal.Goal.{Goal}
 use Rattle.roster_model.specs.declared.node.Decision.{Decision}
 use Rattle.roster_model.specs.Rosters.{line_at}
-use Rattle.roster_model.specs.Rounds.{IsRound, HasEvenRounds}
+use Rattle.roster_model.specs.Rounds.{IsRound}
 use Rattle.roster_model.specs.OpenNodes.{IsOpenNode}
 use Rattle.roster_model.specs.Closing.{IsOpenPair}
 use Rattle.roster_model.proofs.Whole.{IsObedient, whole-complete, whole-meets, whole-obeys}

@@ -1,10 +1,10 @@
 -- Rows of integers, as loops fill them.
-use Rattle.std.proofs.Common.{◌≡◌, ℕ, zero, suc, ◌+◌, ◌-◌, ◌*◌, ◌<◌, ◌≤◌, Bool, true, false, cond, ◌||◌, List, [], ◌∷◌, length, take, get_or, ◌==◌, refl, ap, sym, ◌∙◌, arith, set, length-set, subst, inl, inr, ◌^◌, get_or-set_other, get_or-set_same, to_z, of_z, w64, FitsSigned}
-use Rattle.std.specs.Prelude.{ℤ, pos, neg_ℤ, ◌+ℤ◌, ◌-ℤ◌, ◌*ℤ◌, All, Some, count_by, unsigned_abs, slice_get}
+use Rattle.std.proofs.Common.{◌≡◌, ℕ, zero, suc, ◌+◌, ◌*◌, ◌<◌, ◌≤◌, Bool, true, false, cond, ◌||◌, List, [], ◌∷◌, length, take, get_or, ◌==◌, refl, ap, sym, ◌∙◌, arith, set, length-set, subst, inl, inr, ◌^◌, get_or-set_other, get_or-set_same, to_z, of_z, w64, FitsSigned}
+use Rattle.std.specs.Prelude.{ℤ, pos, neg_ℤ, ◌+ℤ◌, ◌-ℤ◌, ◌*ℤ◌, All, count_by, unsigned_abs, slice_get}
 use Rattle.std.specs.Option.{option_map_or}
 use Rattle.std.proofs.lemmas.Int.{ints, unsigned_abs-mul, to_z-of_z, fits_signed_from_abs}
 use Rattle.std.proofs.lemmas.Nat.{mul-le}
-use Rattle.std.proofs.lemmas.Bool.{leb-true, and_parts, ne_eqb, eq-eqb, eqb-true, cases_eq}
+use Rattle.std.proofs.lemmas.Bool.{and_parts, ne_eqb, eq-eqb, eqb-true, cases_eq}
 use Rattle.std.proofs.lemmas.List.Sums.{sum_by-cons, count_by-le-length, count_by_more_no, count_by_more_yes}
 use Rattle.std.proofs.lemmas.List.{length-take, get_or_default}
 use Rattle.std.proofs.lemmas.List.Elements.{All-head, All-tail}
@@ -17,7 +17,6 @@ use Rattle.roster_model.specs.declared.problem.Problem.{Problem}
 use Rattle.roster_model.specs.Ascending.{ascends_from}
 use Rattle.roster_model.specs.Scores.{is_flown}
 use Rattle.roster_model.specs.Rosters.{line_at, need_of}
-use Rattle.roster_model.specs.Rounds.{miss_of}
 use Rattle.roster_model.specs.Weights.{weight_at}
 use Rattle.roster_model.proofs.Lines.{is_flown-below}
 use Rattle.roster_model.proofs.Sums.{product_of, sum_below-one}

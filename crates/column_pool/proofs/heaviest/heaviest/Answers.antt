@@ -1,9 +1,9 @@
-use Rattle.std.proofs.Common.{◌≡◌, ◌+◌, ◌<◌, ap, sym, subst, ◌∙◌, to_z, of_z, w64, FitsSigned, rules, List, ℕ, ℤ, Option, Some, true}
+use Rattle.std.proofs.Common.{◌≡◌, ◌+◌, ap, sym, subst, ◌∙◌, to_z, of_z, w64, FitsSigned, rules, List, ℕ, ℤ, Option}
 use Rattle.std.proofs.lemmas.Bool.{false≢true}
 use Rattle.std.proofs.lemmas.Int.{to_z-of_z}
 use Rattle.roster_model.specs.Rounds.{IsStandardLine}
 use Rattle.roster_model.specs.Weights.{weight_of}
-use Rattle.column_pool.specs.Heaviest.{IsAbove, IsHeaviest, weight_at_place}
+use Rattle.column_pool.specs.Heaviest.{IsHeaviest, weight_at_place}
 use Rattle.column_pool.proofs.Heavier.{HasWeight, heaviest_kept, heaviest_taken}
 use Rattle.column_pool.proofs.heaviest.heaviest.Goals as goal
 use Rattle.column_pool.proofs.heaviest.heaviest.Goals.{then-branch, else-branch}

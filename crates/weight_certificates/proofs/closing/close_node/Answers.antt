@@ -1,5 +1,5 @@
 use Rattle.std.proofs.Common.{refl}
-use Rattle.roster_model.specs.Closing.{IsAccepted, IsMiscrewed, IsMisfit}
+use Rattle.roster_model.specs.Closing.{IsAccepted, IsMisfit}
 use Rattle.weight_certificates.proofs.ColumnSteps.{columns_in_range}
 use Rattle.weight_certificates.proofs.closing.close_node.Goals as goal
 

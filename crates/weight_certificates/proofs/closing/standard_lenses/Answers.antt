@@ -1,4 +1,4 @@
-use Rattle.std.proofs.Common.{◌≡◌, ◌+◌, ◌∷◌, [], ℕ, length, length-append, ap, ◌∙◌, List}
+use Rattle.std.proofs.Common.{◌+◌, ◌∷◌, [], ℕ, length, length-append, ap, ◌∙◌, List}
 use Rattle.roster_model.specs.declared.proof.Lens.{Lens}
 use Rattle.roster_model.specs.Lenses.{IsLens, IsStandardLens}
 use Rattle.weight_certificates.proofs.Facts.{each_more}

@@ -1,4 +1,4 @@
-use Rattle.std.proofs.Common.{◌≡◌, ◌∙◌, ap, subst, arith, ℕ, List, [], get_or, length}
+use Rattle.std.proofs.Common.{◌≡◌, ◌∙◌, ap, subst, arith, ℕ, List, [], length}
 use Rattle.std.proofs.lemmas.List.{get_or_default}
 use Rattle.roster_model.specs.Rosters.{line_at}
 use Rattle.roster_model.specs.Goals.{MeetsGoal}

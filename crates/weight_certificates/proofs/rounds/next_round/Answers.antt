@@ -1,4 +1,4 @@
-use Rattle.std.proofs.Common.{◌≡◌, ◌<◌, ◌∙◌, ap, ℕ, length, sym, arith, FitsSigned, w64, rules, pos, ◌≤ℤ◌, List}
+use Rattle.std.proofs.Common.{◌≡◌, ◌<◌, ◌∙◌, ap, ℕ, length, arith, FitsSigned, w64, rules, List}
 use Rattle.std.proofs.lemmas.Int.{ints}
 use Rattle.roster_model.specs.Rounds.{IsRound, miss_of}
 use Rattle.roster_model.specs.Weights.{weight_at}

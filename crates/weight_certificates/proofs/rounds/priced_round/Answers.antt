@@ -1,4 +1,4 @@
-use Rattle.std.proofs.Common.{◌≡◌, ◌<◌, ◌∙◌, ℕ, length, sym, arith, FitsSigned, w64, rules, pos, ◌<ℤ◌, ◌≤ℤ◌}
+use Rattle.std.proofs.Common.{◌≡◌, ◌<◌, ℕ, length, arith, FitsSigned, w64, rules, pos, ◌<ℤ◌}
 use Rattle.std.proofs.lemmas.Int.{ints}
 use Rattle.roster_model.specs.Rounds.{miss_of}
 use Rattle.roster_model.specs.Weights.{weight_at}

@@ -1,8 +1,5 @@
-use Rattle.std.proofs.Common.{◌≡◌, ◌<◌, ◌≤◌, arith}
-use Rattle.roster_model.specs.Weights.{AreSmallWeights}
-use Rattle.roster_model.specs.Lenses.{IsOutweighed}
+use Rattle.std.proofs.Common.{arith}
 use Rattle.weight_certificates.specs.Columns.{IsHeavyEnough}
-use Rattle.weight_certificates.specs.Pricing.{IsWithoutLine}
 use Rattle.weight_certificates.proofs.Evened.{evened_none, evened_more, evened_small, evened_all, small_weights}
 use Rattle.weight_certificates.proofs.rounds.rounds_over.Goals as goal
 

@@ -1,5 +1,5 @@
-use Rattle.std.proofs.Common.{◌≡◌, arith, ◌∙◌, ◌≤◌, ◌-◌, ◌<◌, length, List, ℕ, All, true, pos, get_or, ap, cond, ◌+ℤ◌}
-use Rattle.roster_model.specs.Ascending.{ascends_from, is_ascending}
+use Rattle.std.proofs.Common.{◌≡◌, arith, ◌∙◌, ◌≤◌, ◌<◌, length, List, ℕ, All, true, pos, get_or, ap, cond, ◌+ℤ◌}
+use Rattle.roster_model.specs.Ascending.{ascends_from}
 use Rattle.roster_model.specs.Scores.{is_flown}
 use Rattle.roster_model.proofs.Bounds.{ascending-length}
 use Rattle.roster_model.specs.Weights.{weight_at}

@@ -1,5 +1,4 @@
-use Rattle.std.proofs.Common.{◌≡◌, Some, length, refl, arith}
-use Rattle.std.specs.Prelude.{slice_get}
+use Rattle.std.proofs.Common.{length, refl, arith}
 use Rattle.std.proofs.lemmas.Option.{slice_get_read}
 use Rattle.weight_certificates.proofs.ColumnSteps.{first_more, first_all}
 use Rattle.weight_certificates.proofs.columns.Columns.gather.Goals as goal

@@ -1,4 +1,4 @@
-use Rattle.std.proofs.Common.{◌≡◌, ◌<◌, ◌∙◌, ap, sym, subst, arith, length, ℕ, List, []}
+use Rattle.std.proofs.Common.{◌≡◌, ◌<◌, ap, sym, subst, arith, length, ℕ, List}
 use Rattle.roster_model.specs.Rounds.{IsStandardLine}
 use Rattle.weight_certificates.proofs.ColumnSteps.{first_lines_more, first_lines_all, column_line}
 use Rattle.weight_certificates.proofs.columns.Columns.round.Goals as goal
