@@ -1,15 +1,14 @@
 -- The texts of members are lines of clean fields.
-use Rattle.std.proofs.Common.{◌≡◌, ℕ, ◌≤◌, List, [], ◌∷◌, ◌++◌, length, map, flat_map, codes, refl, sym, ap, ◌∙◌, append_assoc, All}
+use Rattle.std.proofs.Common.{◌≡◌, ℕ, ◌≤◌, List, [], ◌∷◌, ◌++◌, length, map, flat_map, refl, sym, ap, ◌∙◌, append_assoc, All}
 use Rattle.std.proofs.lemmas.List.Elements.{All-head, All-tail}
 use Rattle.duty_calendar.specs.declared.horizon.Horizon.{Horizon}
 use Rattle.duty_calendar.specs.declared.member.Member.{Member}
-use Rattle.field_text.specs.Spelling.{minutes_text}
 use Rattle.field_text.proofs.CleanLines.{clean_lines, AreClean, AreCleanRows}
 use Rattle.crew_files.specs.declared.part.Part.{Part}
 use Rattle.crew_files.specs.Crew.{crew_header}
 use Rattle.crew_files.specs.Events.{event_header, part_of}
-use Rattle.crew_files.specs.Texts.{crew_fields, crew_text, kind_text, times_fields, flights_text, event_fields, events_of_member, events_text}
-use Rattle.field_text.specs.Rows.{line, line_end}
+use Rattle.crew_files.specs.Texts.{crew_fields, crew_text, event_fields, events_of_member, events_text}
+use Rattle.field_text.specs.Rows.{line}
 
 lines-append : (rs qs : List (List (List ℕ))) → clean_lines (rs ++ qs) ≡ clean_lines rs ++ clean_lines qs
 lines-append [] qs = refl
