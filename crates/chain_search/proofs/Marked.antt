@@ -1,39 +1,49 @@
 -- Marks beside places.
 use Rattle.std.proofs.Common.{◌≡◌, ℕ, ◌<◌, List, [], ◌∷◌, ◌++◌, Some, inl, inr, refl, sym, ◌∙◌, ap, subst, arith, length, get_or, set, map}
 use Rattle.std.specs.Prelude.{Contains, option_map, slice_get}
-use Rattle.std.proofs.lemmas.List.{length-map, length-set, map-set}
-use Rattle.std.proofs.lemmas.List.Elements.{Contains-push_cases}
-use Rattle.std.proofs.lemmas.Option.{slice_get-map, slice_get_read}
+use Rattle.std.proofs.lemmas.List.{get_or-set_same, length-map, length-set, map-set}
+use Rattle.std.proofs.lemmas.List.Elements.{Contains-push, Contains-push_cases}
+use Rattle.std.proofs.lemmas.Option.{slice_get-get_or, slice_get-map, slice_get_read, slice_get_within}
 use Rattle.chain_search.specs.declared.marks.Mark.{Mark}
 use Rattle.chain_search.specs.declared.marks.MarkRow.{MarkRow}
 use Rattle.chain_search.specs.Marking.{HoldsMore, KeepsMark}
 use Rattle.chain_search.proofs.ListReads.{contains_read, read_contains, same_or_not, set_read_other, set_read_same}
 
 pub more_pushed : {R : Type 0} (old new : List (Mark R)) (mark : Mark R) → new ≡ old ++ mark ∷ [] → HoldsMore old mark new
-more_pushed old new mark is x holds = elim (Contains-push_cases old mark x (subst (λ (xs : List (Mark _)). Contains xs x) is holds)) [
-  | inl there ↦ inl there
-  | inr same ↦ inr (sym same)
-]
+more_pushed old new mark is = record {
+  holds = subst (λ (xs : List (Mark _)). Contains xs mark) (sym is) (Contains-push old mark);
+  from = λ x holds. elim (Contains-push_cases old mark x (subst (λ (xs : List (Mark _)). Contains xs x) is holds)) [
+    | inl there ↦ inl there
+    | inr same ↦ inr (sym same)
+  ];
+}
 
-pub more_set : {R : Type 0} (old new : List (Mark R)) (slot : ℕ) (mark : Mark R) → new ≡ set old slot mark → HoldsMore old mark new
-more_set old new slot mark is x holds =
-    let within : Contains (set old slot mark) x = subst (λ (xs : List (Mark _)). Contains xs x) is holds in
-    let at = read_contains (set old slot mark) x within in
-    elim (same_or_not within.0 slot) [
-      | inl same ↦ inr (sym (set_read_same old slot mark x (subst (λ k. slice_get (set old slot mark) k ≡ Some x) same at)))
-      | inr other ↦ inl (contains_read old within.0 x (set_read_other old slot within.0 mark x other at))
-    ]
+pub more_set : {R : Type 0} (old new : List (Mark R)) (slot : ℕ) (mark : Mark R) → slot < length old → new ≡ set old slot mark → HoldsMore old mark new
+more_set old new slot mark within is = record {
+  holds = subst (λ (xs : List (Mark _)). Contains xs mark) (sym is) (slot, subst (λ n. slot < n) (sym (length-set old slot mark)) within, get_or-set_same old slot mark mark within);
+  from = λ x holds.
+      let there : Contains (set old slot mark) x = subst (λ (xs : List (Mark _)). Contains xs x) is holds in
+      let at = read_contains (set old slot mark) x there in
+      elim (same_or_not there.0 slot) [
+        | inl same ↦ inr (sym (set_read_same old slot mark x (subst (λ k. slice_get (set old slot mark) k ≡ Some x) same at)))
+        | inr other ↦ inl (contains_read old there.0 x (set_read_other old slot there.0 mark x other at))
+      ];
+}
+
+set_read : {X : Type 0} (xs : List X) (i : ℕ) (x : X) → i < length xs → slice_get (set xs i x) i ≡ Some x
+set_read xs i x within = slice_get-get_or (set xs i x) i x (subst (λ n. i < n) (sym (length-set xs i x)) within) ∙ ap (λ y. Some y) (get_or-set_same xs i x x within)
 
 -- one row holds more
 pub keeps_row : {R : Type 0} (rows new : List (List (Mark R))) (place : ℕ) (row more : List (Mark R)) (mark : Mark R) → slice_get rows place ≡ Some row → new ≡ set rows place more → HoldsMore row mark more → KeepsMark rows place mark new
 keeps_row rows new place row more mark is set_is holds = record {
   count = ap length set_is ∙ length-set rows place more;
+  stands = record { row = more; is = subst (λ (rs : List (List (Mark _))). slice_get rs place ≡ Some more) (sym set_is) (set_read rows place more (slice_get_within rows place row is)); listed = holds.holds };
   from = λ at x stands.
       let there : slice_get (set rows place more) at ≡ Some stands.row = subst (λ (rs : List (List (Mark _))). slice_get rs at ≡ Some stands.row) set_is stands.is in
       elim (same_or_not at place) [
         | inl same ↦ (
             let row_is : more ≡ stands.row = set_read_same rows place more stands.row (subst (λ k. slice_get (set rows place more) k ≡ Some stands.row) same there) in
-            elim (holds x (subst (λ (r : List (Mark _)). Contains r x) (sym row_is) stands.listed)) [
+            elim (holds.from x (subst (λ (r : List (Mark _)). Contains r x) (sym row_is) stands.listed)) [
               | inl old ↦ inl (record { row = row; is = subst (λ k. slice_get rows k ≡ Some row) (sym same) is; listed = old })
               | inr new ↦ inr (same, new)
             ])

@@ -5,6 +5,7 @@ pub mod Searches
 pub mod LeastRests
 pub mod Views
 pub mod Rows
+pub mod SeenChains
 pub mod Tables
 pub mod Blinds
 pub mod Rooms

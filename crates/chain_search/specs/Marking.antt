@@ -12,11 +12,13 @@ pub record Stands {R : Type 0} (rows : List (List (Mark R))) (place : ℕ) (mark
   pub is : slice_get rows place ≡ Some row
   pub listed : Contains row mark
 
--- this mark, and none that was not there before
-abbrev pub HoldsMore : {R : Type 0} → List (Mark R) → Mark R → List (Mark R) → Type 0
-HoldsMore {R} old mark new = (x : Mark R) → Contains new x → Contains old x ⊎ (x ≡ mark)
+-- this mark stands there, and no other that was not there before
+pub record HoldsMore {R : Type 0} (old : List (Mark R)) (mark : Mark R) (new : List (Mark R)) : Type 0 where
+  pub holds : Contains new mark
+  pub from : (x : Mark R) → Contains new x → Contains old x ⊎ (x ≡ mark)
 
--- beside the place stands this mark too, and no other that did not stand there before
+-- beside the place stands this mark, and no other that did not stand there before
 pub record KeepsMark {R : Type 0} (old : List (List (Mark R))) (place : ℕ) (mark : Mark R) (new : List (List (Mark R))) : Type 0 where
   pub count : length new ≡ length old
+  pub stands : Stands new place mark
   pub from : (at : ℕ) (x : Mark R) → Stands new at x → Stands old at x ⊎ ((at ≡ place) × (x ≡ mark))

@@ -1,12 +1,13 @@
 //! What chains may still gain, by the states of a coarse view.
 
-ghost use Rattle.std.specs.Prelude.{◌≡◌, ◌+◌, ◌-◌, ◌*◌, ◌<◌, ◌≤◌, ◌^◌, ◌≤ℤ◌, ◌+ℤ◌, ℕ, ℤ, IfOk, List, Some, get_or, length, neg_ℤ, pos, slice_get, true};
+ghost use Rattle.std.specs.Prelude.{◌≡◌, ◌+◌, ◌-◌, ◌*◌, ◌<◌, ◌≤◌, ◌^◌, ◌≤ℤ◌, ◌+ℤ◌, ◌⊎◌, ℕ, ℤ, IfOk, List, Some, get_or, if◌then◌else◌, length, neg_ℤ, pos, slice_get, true};
 ghost use Rattle.label_setter.specs.declared.graph.Arc.{Arc as ArcOf};
 ghost use Rattle.label_setter.specs.Graphs.{IsGraph};
 ghost use Rattle.label_setter.specs.Rests.{IsRest};
 ghost use Rattle.chain_search.specs.Leavings.{AreWays, Leaving};
 ghost use Rattle.chain_search.specs.Views.{follows};
-ghost use Rattle.chain_search.specs.Rows.{GoesBack, IsBetween, RaisedBy};
+ghost use Rattle.chain_search.specs.Rows.{GoesBack, IsBetween, IsLowOrBack, RaisedBy};
+ghost use Rattle.chain_search.specs.SeenChains.{IsSeenOrLow};
 ghost use Rattle.chain_search.specs.Tables.{rested};
 
 use crate::coarse::Coarse;
@@ -51,6 +52,7 @@ impl<R: Resource, C: Coarse<R>> Rest<R> for CoarseRest<C> {
 fn sink_row<R: Resource, C: Coarse<R>>(alloc: Global, coarse: &C) -> Result<Vec<i64>, Memory>
     ensures long { IfOk result (λ row. length row.items ≡ C.count coarse.now) }
     ensures between { IfOk result (λ row. IsBetween 0 row.items) }
+    ensures value { IfOk result (λ row. (state : ℕ) → state < C.count coarse.now → get_or row.items state (pos 0) ≡ (if C.ends coarse.now state then pos 0 else neg_ℤ (pos (2 ^ 60)))) }
     ensures ends { IfOk result (λ row. (state : ℕ) → state < C.count coarse.now → C.ends coarse.now state ≡ true → pos 0 ≤ℤ get_or row.items state (pos 0)) }
 {
     let mut row = Vec::new(alloc);
@@ -67,6 +69,7 @@ fn sink_row<R: Resource, C: Coarse<R>>(alloc: Global, coarse: &C) -> Result<Vec<
 /// Makes all numbers of the row impossible.
 fn clear(row: &mut [i64])
     ensures between { IsBetween 0 row.new }
+    ensures value { (state : ℕ) → state < length row.new → get_or row.new state (pos 0) ≡ neg_ℤ (pos (2 ^ 60)) }
 {
     for state in 0..row.len() {
         row[state] = IMPOSSIBLE;
@@ -79,6 +82,7 @@ fn higher<S>(old: &i64, after: &i64, arc: &Arc<S>) -> i64
     requires after_high { after.now ≤ℤ pos (2000 * 2 ^ 40) }
     requires low { neg_ℤ (pos (2 ^ 40)) ≤ℤ arc.now.gain }
     requires high { arc.now.gain ≤ℤ pos (2 ^ 40) }
+    ensures one { (result ≡ old.now) ⊎ (result ≡ after.now +ℤ arc.now.gain) }
     ensures risen { old.now ≤ℤ result }
     ensures over { (after.now +ℤ arc.now.gain) ≤ℤ result }
     ensures least { (most : ℤ) → old.now ≤ℤ most → (after.now +ℤ arc.now.gain) ≤ℤ most → result ≤ℤ most }
@@ -136,6 +140,7 @@ fn place_row<R: Resource, C: Coarse<R>>(
     requires long { length table.now ≡ (graph.now.places - 1 - place) * C.count coarse.now }
     requires between { IsBetween (graph.now.places - 1 - place) table.now }
     ensures between { IsBetween (graph.now.places - place) row.new }
+    ensures from { (state : ℕ) → state < C.count coarse.now → IsLowOrBack (λ step. C.moves (C.move_of coarse.now step)) (C.count coarse.now) (graph.now.places - 1) graph.now.arcs place table.now state (get_or row.new state (pos 0)) }
     ensures covers { (number : ℕ) (arc : ArcOf R.Step) → slice_get graph.now.arcs number ≡ Some arc → arc.from ≡ place → GoesBack (λ step. C.moves (C.move_of coarse.now step)) (C.count coarse.now) (graph.now.places - 1) table.now row.new arc }
 {
     let sink = sink_of(graph);
@@ -159,6 +164,7 @@ pub fn coarse_rest<R: Resource, C: Coarse<R> + Drop>(
     requires ways { AreWays graph.now.arcs graph.now.places ways.now }
     requires follows { follows (C.fits_step coarse) (C.fits_end coarse) graph.now ≡ true }
     ensures rest { IfOk result (λ rest. IsRest R.extend R.done graph.now (rested C.count C.shows rest)) }
+    ensures attained { IfOk result (λ rest. (place : ℕ) (a : R) → place < graph.now.places → IsSeenOrLow (λ step. C.moves (C.move_of coarse step)) (C.ends coarse) graph.now.arcs (graph.now.places - 1) place (C.shows coarse a) (rested C.count C.shows rest place a)) }
 {
     let sink = sink_of(graph);
     let mut row = sink_row(alloc, &coarse)?;

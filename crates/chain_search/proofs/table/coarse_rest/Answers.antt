@@ -1,8 +1,8 @@
-use Rattle.std.proofs.Common.{◌≡◌, ◌+◌, ◌-◌, ◌<◌, ◌++◌, [], ℕ, ℤ, List, Some, length, take, drop, arith, ◌∙◌, ap, subst}
+use Rattle.std.proofs.Common.{◌≡◌, ◌+◌, ◌-◌, ◌<◌, ◌++◌, [], ℕ, ℤ, List, Some, length, get_or, pos, take, drop, arith, ◌∙◌, ap, subst}
 use Rattle.std.specs.Prelude.{slice_get}
 use Rattle.label_setter.specs.declared.graph.Arc.{Arc}
-use Rattle.chain_search.specs.Rows.{GoesBack, IsBetween}
-use Rattle.chain_search.proofs.TableRows.{filled_more, filled_start, rest_of_table, written}
+use Rattle.chain_search.specs.Rows.{GoesBack, IsBetween, IsLowOrBack}
+use Rattle.chain_search.proofs.TableRows.{filled_more, filled_start, rest_of_table, seen_of_table, written}
 use Rattle.chain_search.proofs.table.coarse_rest.Goals as goal
 
 pub loop-back-init : goal.loop-back-init
@@ -12,7 +12,7 @@ loop-back-init g c =
     record {
       wide = c.in_ok-row.ensures.long;
       filled = filled_start (λ (step : g.row.R-Step.Denot). g.C.Coarse.moves (g.C.Coarse.move_of c.args.coarse step)) (g.C.Coarse.ends c.args.coarse) (g.C.Coarse.count c.args.coarse) c.args.graph.now.places c.args.graph.now.arcs c.sink_of-sink.ensures.graph
-          c.extend_from_slice.new.self.items c.in_ok-row.row.items table_is c.in_ok-row.ensures.long c.in_ok-row.ensures.between c.in_ok-row.ensures.ends;
+          c.extend_from_slice.new.self.items c.in_ok-row.row.items table_is c.in_ok-row.ensures.long c.in_ok-row.ensures.between c.in_ok-row.ensures.ends c.in_ok-row.ensures.value;
     }
 
 pub place_row-requires-clause-leaving : goal.place_row-requires-clause-leaving
@@ -34,16 +34,22 @@ loop-back-preserved g c =
     let between : IsBetween (c.loop-back.back + 1) c.place_row.new.row = subst (λ n. IsBetween n c.place_row.new.row) most c.place_row.ensures.between in
     let goes : (number : ℕ) (arc : Arc g.row.R-Step.Denot) → slice_get c.args.graph.now.arcs number ≡ Some arc → arc.from ≡ place → GoesBack moves (g.C.Coarse.count c.args.coarse) (c.args.graph.now.places - 1) c.loop-back.table.items c.place_row.new.row arc =
     λ number arc is from. subst (λ (xs : List ℤ). GoesBack moves (g.C.Coarse.count c.args.coarse) (c.args.graph.now.places - 1) xs c.place_row.new.row arc) c.deref-in-loop-back.ensures.value (c.place_row.ensures.covers number arc is from) in
+    let froms : (state : ℕ) → state < g.C.Coarse.count c.args.coarse → IsLowOrBack moves (g.C.Coarse.count c.args.coarse) (c.args.graph.now.places - 1) c.args.graph.now.arcs place c.loop-back.table.items state (get_or c.place_row.new.row state (pos 0)) =
+    λ state small. subst (λ (xs : List ℤ). IsLowOrBack moves (g.C.Coarse.count c.args.coarse) (c.args.graph.now.places - 1) c.args.graph.now.arcs place xs state (get_or c.place_row.new.row state (pos 0))) c.deref-in-loop-back.ensures.value (c.place_row.ensures.from state small) in
     record {
       wide = ap length same ∙ wide;
       filled = filled_more moves (g.C.Coarse.ends c.args.coarse) (g.C.Coarse.count c.args.coarse) c.args.graph.now.places c.args.graph.now.arcs c.sink_of-sink.ensures.graph c.loop-back.table.items c.extend_from_slice-in-loop-back.new.self.items c.place_row.new.row c.loop-back.back place some at table_is wide between
-          (λ number arc is state next small move. laws.stays arc.step state next small move) goes c.loop-back.invariant.filled;
+          (λ number arc is state next small move. laws.stays arc.step state next small move) goes froms c.loop-back.invariant.filled;
     }
 
-pub returns : goal.returns
-returns g c =
+pub returns-clause-rest : goal.returns-clause-rest
+returns-clause-rest g c =
     let sink = c.sink_of-sink.ensures.sink in
-    record {
-      rest = rest_of_table g.R.Resource.extend g.R.Resource.done c.args.graph.now (g.C.Coarse.count c.args.coarse) (g.C.Coarse.shows c.args.coarse) (λ step. g.C.Coarse.moves (g.C.Coarse.move_of c.args.coarse step)) (g.C.Coarse.ends c.args.coarse) (g.C.Coarse.fits_step c.args.coarse) (g.C.Coarse.fits_end c.args.coarse) (g.met.C.Coarse.laws c.args.coarse) c.requires.follows
-          c.loop-back.table.items c.loop-back.back c.sink_of-sink.result sink (omega (arith, sink)) c.loop-back.invariant.filled;
-    }
+    rest_of_table g.R.Resource.extend g.R.Resource.done c.args.graph.now (g.C.Coarse.count c.args.coarse) (g.C.Coarse.shows c.args.coarse) (λ step. g.C.Coarse.moves (g.C.Coarse.move_of c.args.coarse step)) (g.C.Coarse.ends c.args.coarse) (g.C.Coarse.fits_step c.args.coarse) (g.C.Coarse.fits_end c.args.coarse) (g.met.C.Coarse.laws c.args.coarse) c.requires.follows
+    c.loop-back.table.items c.loop-back.back c.sink_of-sink.result sink (omega (arith, sink)) c.loop-back.invariant.filled
+
+pub returns-clause-attained : goal.returns-clause-attained
+returns-clause-attained g c = λ place a inside.
+    let sink = c.sink_of-sink.ensures.sink in
+    seen_of_table (λ (step : g.row.R-Step.Denot). g.C.Coarse.moves (g.C.Coarse.move_of c.args.coarse step)) (g.C.Coarse.ends c.args.coarse) (g.C.Coarse.count c.args.coarse) c.args.graph.now.places c.loop-back.back c.sink_of-sink.result c.args.graph.now.arcs c.loop-back.table.items sink (omega (arith, sink)) c.sink_of-sink.ensures.graph.most c.loop-back.invariant.filled
+    place (g.C.Coarse.shows c.args.coarse a) inside ((g.met.C.Coarse.laws c.args.coarse).shown a)

@@ -1,9 +1,9 @@
-use Rattle.std.proofs.Common.{◌≡◌, ◌+◌, ◌-◌, ◌*◌, ◌<◌, ℕ, pos, List, length, get_or, arith, sym, ◌∙◌, ap, subst}
+use Rattle.std.proofs.Common.{◌≡◌, ◌+◌, ◌-◌, ◌*◌, ◌<◌, ℕ, pos, List, Some, inl, length, get_or, arith, sym, ◌∙◌, ap, subst}
 use Rattle.std.proofs.lemmas.Option.{slice_get-get_or}
 use Rattle.label_setter.specs.declared.graph.Arc.{Arc}
 use Rattle.chain_search.specs.Rows.{IsBetween, RaisedBy}
 use Rattle.chain_search.proofs.Hunting.{listed_read}
-use Rattle.chain_search.proofs.TableRows.{between_row, covers_all, covers_more, rows_fit}
+use Rattle.chain_search.proofs.TableRows.{back_more, between_more, between_row, covers_all, covers_more, rows_fit}
 use Rattle.chain_search.proofs.table.place_row.Goals as goal
 
 pub row_of-there-requires : goal.row_of-there-requires
@@ -52,11 +52,20 @@ loop-number-preserved g c =
     λ state less. c.row_of-there.ensures.at state (let count = c.count.ensures.count in omega (arith, less, count))
     ∙ (ap (λ n. get_or c.args.table.now ((n - c.index-arcs-number.result.to) * c.count.result + state) (pos 0)) sink_is
     ∙ ap (λ n. get_or c.args.table.now ((c.args.graph.now.places - 1 - c.index-arcs-number.result.to) * n + state) (pos 0)) c.count.ensures.count) in
+    let stays = λ (state next : ℕ) (less : state < g.C.Coarse.count c.args.coarse.now) (is : g.C.Coarse.moves (g.C.Coarse.move_of c.args.coarse.now c.index-arcs-number.result.step) state ≡ Some next). laws.stays c.index-arcs-number.result.step state next less is in
     record {
       between = subst (λ n. IsBetween n c.raise.new.here) one (raised.between (c.args.graph.now.places - 1 - c.args.place) after (subst (λ n. IsBetween n c.loop-number.row) (sym one) c.loop-number.invariant.between));
+      from = back_more moves (g.C.Coarse.count c.args.coarse.now) (c.args.graph.now.places - 1) c.args.graph.now.arcs c.args.place c.args.table.now c.loop-number.row c.raise.new.here c.row_of-there.result.now number c.index-arcs-number.result read.is read.from stays at raised c.loop-number.invariant.from;
       covers = covers_more moves (g.C.Coarse.count c.args.coarse.now) (c.args.graph.now.places - 1) c.args.graph.now.arcs c.args.leaving.now c.args.table.now c.loop-number.row c.raise.new.here c.row_of-there.result.now c.loop-number.number-index number c.index-arcs-number.result
           (slice_get-get_or c.args.leaving.now c.loop-number.number-index 0 c.loop-number-test.true) read.is (λ state next less is. laws.stays c.index-arcs-number.result.step state next less is) wide at raised c.loop-number.invariant.covers;
     }
 
 pub returns-clause-covers : goal.returns-clause-covers
 returns-clause-covers g c = covers_all _ _ _ c.args.graph.now.arcs c.args.leaving.now c.args.place c.args.table.now c.loop-number.row c.loop-number.number-index c.requires.leaving (omega arith) c.loop-number.invariant.covers
+
+pub loop-number-init : goal.loop-number-init
+loop-number-init g c = record {
+  between = between_more 0 (c.args.graph.now.places - c.args.place) c.clear.new.row (omega arith) c.clear.ensures.between;
+  from = λ state less. inl (c.clear.ensures.value state (let wide : length c.clear.new.row ≡ g.C.Coarse.count c.args.coarse.now = c.clear.auto.row ∙ c.requires.wide in omega (arith, wide, less)));
+  covers = λ k number arc less. absurd (omega (arith, less));
+}
