@@ -1,0 +1,88 @@
+-- The arcs that begin at a place.
+use Rattle.std.proofs.Common.{◌≡◌, ◌≢◌, ℕ, ◌+◌, ◌<◌, List, [], ◌∷◌, ◌++◌, Some, inl, inr, refl, sym, ◌∙◌, ap, subst, arith, length, get_or, set, map, Vec}
+use Rattle.std.specs.declared.alloc.Global.{Global}
+use Rattle.std.specs.Prelude.{Contains, slice_get, All}
+use Rattle.std.proofs.lemmas.Option.{slice_get_read, slice_get_within}
+use Rattle.std.proofs.lemmas.List.{length-map, map-set}
+use Rattle.std.proofs.lemmas.List.Elements.{All-nil, All-push, All-map, All-contains, Contains-push, Contains-append_left}
+use Rattle.chain_search.proofs.ListReads.{below_or_at, contains_read, same_or_not, same_some, set_read_same, set_read_other}
+use Rattle.chain_search.proofs.ListReads.{list_there}
+use Rattle.label_setter.specs.declared.graph.Arc.{Arc}
+use Rattle.label_setter.specs.Graphs.{FitsPlaces}
+use Rattle.chain_search.specs.Leavings.{AreWays, LeavesFrom, Leaving}
+
+pub record Listed {S : Type 0} (arcs : List (Arc S)) (place i : ℕ) (numbers : List ℕ) : Type 0 where
+  pub listed : (number : ℕ) (arc : Arc S) → number < i → slice_get arcs number ≡ Some arc → arc.from ≡ place → Contains numbers number
+  pub right : All (LeavesFrom arcs place) numbers
+
+module _ {S : Type 0} (arcs : List (Arc S)) (place : ℕ) where
+  pub Listed-start : Listed arcs place 0 []
+  Listed-start = record { listed = λ number arc l is to. absurd (omega arith); right = All-nil (LeavesFrom arcs place) }
+
+  pub Listed-yes : (i : ℕ) (numbers : List ℕ) (arc : Arc S) → i < length arcs → arc ≡ get_or arcs i arc → arc.from ≡ place → Listed arcs place i numbers → Listed arcs place (i + 1) (numbers ++ i ∷ [])
+  Listed-yes i numbers arc within read to so_far =
+      let is : slice_get arcs i ≡ Some arc = slice_get_read arcs (length arcs) i arc refl within read in
+      record {
+        listed = λ number other l other_is other_to. elim (below_or_at number i l) [
+          | inl earlier ↦ Contains-append_left numbers (i ∷ []) number (so_far.listed number other earlier other_is other_to)
+          | inr now ↦ subst (λ n. Contains (numbers ++ i ∷ []) n) (sym now) (Contains-push numbers i)
+        ];
+        right = All-push (LeavesFrom arcs place) numbers i so_far.right (record { arc = arc; is = is; from = to });
+      }
+
+  pub Listed-no : (i : ℕ) (numbers : List ℕ) (arc : Arc S) → i < length arcs → arc ≡ get_or arcs i arc → arc.from ≢ place → Listed arcs place i numbers → Listed arcs place (i + 1) numbers
+  Listed-no i numbers arc within read other_place so_far =
+      let is : slice_get arcs i ≡ Some arc = slice_get_read arcs (length arcs) i arc refl within read in
+      record {
+        listed = λ number other l other_is other_to. elim (below_or_at number i l) [
+          | inl earlier ↦ so_far.listed number other earlier other_is other_to
+          | inr now ↦ (
+              let same : other ≡ arc = same_some _ other arc other_is (subst (λ n. slice_get arcs n ≡ Some arc) (sym now) is) in
+              absurd (other_place (ap (λ (a : Arc S). a.from) (sym same) ∙ other_to)))
+        ];
+        right = so_far.right;
+      }
+
+  pub Listed-all : (numbers : List ℕ) → Listed arcs place (length arcs) numbers → Leaving arcs place numbers
+  Listed-all numbers all = record {
+    listed = λ number arc is to. all.listed number arc (slice_get_within arcs number arc is) is to;
+    right = all.right;
+  }
+
+-- the lists of all places, after the first arcs
+pub record Grouped {S : Type 0} (arcs : List (Arc S)) (i : ℕ) (lists : List (List ℕ)) : Type 0 where
+  pub each : (place : ℕ) (numbers : List ℕ) → slice_get lists place ≡ Some numbers → Listed arcs place i numbers
+
+module _ {S : Type 0} (arcs : List (Arc S)) where
+  pub Grouped-start : (lists : List (Vec ℕ Global)) → All (λ list. list.items ≡ []) lists → Grouped arcs 0 (map (λ list. list.items) lists)
+  Grouped-start lists empty = record {
+    each = λ place numbers is.
+        let none : numbers ≡ [] = All-contains (λ (ns : List ℕ). ns ≡ []) (map (λ list. list.items) lists) numbers (All-map (λ (ns : List ℕ). ns ≡ []) (λ (list : Vec ℕ Global). list.items) lists empty) (contains_read (map (λ list. list.items) lists) place numbers is) in
+        subst (Listed arcs place 0) (sym none) (Listed-start arcs place);
+  }
+
+  pub Grouped-takes : (lists : List (List ℕ)) (i : ℕ) (arc : Arc S) (old : List ℕ) → i < length arcs → arc ≡ get_or arcs i arc → slice_get lists arc.from ≡ Some old → Grouped arcs i lists → Grouped arcs (i + 1) (set lists arc.from (old ++ i ∷ []))
+  Grouped-takes lists i arc old within read old_is so_far = record {
+    each = λ place numbers is. elim (same_or_not place arc.from) [
+      | inl same ↦ (
+          let new_is : old ++ i ∷ [] ≡ numbers = set_read_same lists arc.from (old ++ i ∷ []) numbers (subst (λ p. slice_get (set lists arc.from (old ++ i ∷ [])) p ≡ Some numbers) same is) in
+          subst (Listed arcs place (i + 1)) new_is
+          (Listed-yes arcs place i old arc within read (sym same) (so_far.each place old (subst (λ p. slice_get lists p ≡ Some old) (sym same) old_is))))
+      | inr other ↦ Listed-no arcs place i numbers arc within read (λ e. other (sym e)) (so_far.each place numbers (set_read_other lists arc.from place (old ++ i ∷ []) numbers other is))
+    ];
+  }
+
+  pub Grouped-adds : (lists : List (Vec ℕ Global)) (places i : ℕ) (arc : Arc S) (list new : Vec ℕ Global) → All (FitsPlaces places) arcs → length lists ≡ places → i < length arcs → arc ≡ get_or arcs i arc → list ≡ get_or lists arc.from list → new.items ≡ list.items ++ i ∷ [] → Grouped arcs i (map (λ list. list.items) lists)
+      → Grouped arcs (i + 1) (map (λ list. list.items) (set lists arc.from new))
+  Grouped-adds lists places i arc list new fit count within read list_read adds so_far =
+      let fits : FitsPlaces places arc = subst (FitsPlaces places) (sym read) (fit i arc within) in
+      let inside : arc.from < length lists = (let forward = fits.forward in let end = fits.within in omega (arith, count)) in
+      let list_is = list_there lists arc.from list inside list_read in
+      rw (map-set (λ (l : Vec ℕ Global). l.items) lists arc.from new, adds) (Grouped-takes (map (λ (l : Vec ℕ Global). l.items) lists) i arc list.items within read list_is so_far)
+
+  -- after all arcs
+  pub ways_all : (lists : List (Vec ℕ Global)) (places count : ℕ) → length lists ≡ places → count ≡ length arcs → Grouped arcs count (map (λ list. list.items) lists) → AreWays arcs places (map (λ list. list.items) lists)
+  ways_all lists places count long all grouped = record {
+    count = length-map lists (λ (l : Vec ℕ Global). l.items) ∙ long;
+    leaving = λ place numbers is. Listed-all arcs place numbers (subst (λ i. Listed arcs place i numbers) all (grouped.each place numbers is));
+  }

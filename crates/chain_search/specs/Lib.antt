@@ -1,0 +1,16 @@
+pub mod Answers
+pub mod Leavings
+pub mod Marking
+pub mod Searches
+pub mod LeastRests
+pub mod Views
+pub mod Rows
+pub mod Tables
+pub mod Blinds
+pub mod Rooms
+pub mod RoomLaws
+pub mod Dues
+pub mod DueLaws
+pub mod BitStates
+pub mod BitLaws
+pub mod PartLaws

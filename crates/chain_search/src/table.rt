@@ -1,0 +1,173 @@
+//! What chains may still gain, by the states of a coarse view.
+
+ghost use Rattle.std.specs.Prelude.{◌≡◌, ◌+◌, ◌-◌, ◌*◌, ◌<◌, ◌≤◌, ◌^◌, ◌≤ℤ◌, ◌+ℤ◌, ℕ, ℤ, IfOk, List, Some, get_or, length, neg_ℤ, pos, slice_get, true};
+ghost use Rattle.label_setter.specs.declared.graph.Arc.{Arc as ArcOf};
+ghost use Rattle.label_setter.specs.Graphs.{IsGraph};
+ghost use Rattle.label_setter.specs.Rests.{IsRest};
+ghost use Rattle.chain_search.specs.Leavings.{AreWays, Leaving};
+ghost use Rattle.chain_search.specs.Views.{follows};
+ghost use Rattle.chain_search.specs.Rows.{GoesBack, IsBetween, RaisedBy};
+ghost use Rattle.chain_search.specs.Tables.{rested};
+
+use crate::coarse::Coarse;
+use crate::ways::{Ways, sink_of};
+use duty_calendar::Memory;
+use label_lattice::Resource;
+use label_setter::{Arc, Graph, Rest};
+use std::alloc::Global;
+
+/// What a chain may still gain that can't come to a done end. It lies further below zero than sums of gains come.
+const IMPOSSIBLE: i64 = -1_152_921_504_606_846_976;
+
+/// The most that chains may still gain from each place on, for each state that a coarse view may show there.
+#[derive(Drop)]
+pub struct CoarseRest<C> {
+    coarse: C,
+    sink: u32,
+    /// The numbers of the sink by states, then those of the place before it, and so on.
+    table: Vec<i64>,
+}
+
+/// The number at this place of the table; 0 past its end.
+fn number_at(table: &[i64], index: usize) -> i64
+    ensures at { result ≡ get_or table.now index (pos 0) }
+{
+    if index < table.len() { table[index] } else { 0 }
+}
+
+impl<R: Resource, C: Coarse<R>> Rest<R> for CoarseRest<C> {
+    ghost use Rattle.chain_search.specs.Tables.{rested};
+
+    ghost rest = { rested C.count C.shows };
+
+    fn rest(&self, place: u32, resource: &R) -> i64 {
+        let back = self.sink.saturating_sub(place) as usize;
+        let state = self.coarse.shows(resource) as usize;
+        number_at(&self.table, back * self.coarse.count() + state)
+    }
+}
+
+/// The numbers of the sink: nothing more is gained where the state may be done.
+fn sink_row<R: Resource, C: Coarse<R>>(alloc: Global, coarse: &C) -> Result<Vec<i64>, Memory>
+    ensures long { IfOk result (λ row. length row.items ≡ C.count coarse.now) }
+    ensures between { IfOk result (λ row. IsBetween 0 row.items) }
+    ensures ends { IfOk result (λ row. (state : ℕ) → state < C.count coarse.now → C.ends coarse.now state ≡ true → pos 0 ≤ℤ get_or row.items state (pos 0)) }
+{
+    let mut row = Vec::new(alloc);
+    for state in 0..coarse.count() {
+        row.push(if coarse.ends(state as u32) { 0 } else { IMPOSSIBLE })?;
+    }
+    Ok(row)
+}
+
+/// Makes all numbers of the row impossible.
+fn clear(row: &mut [i64])
+    ensures between { IsBetween 0 row.new }
+{
+    for state in 0..row.len() {
+        row[state] = IMPOSSIBLE;
+    }
+}
+
+/// The number, or what an arc gains before the other, whichever is more.
+fn higher<S>(old: &i64, after: &i64, arc: &Arc<S>) -> i64
+    requires after_low { neg_ℤ (pos (2 ^ 60)) ≤ℤ after.now }
+    requires after_high { after.now ≤ℤ pos (2000 * 2 ^ 40) }
+    requires low { neg_ℤ (pos (2 ^ 40)) ≤ℤ arc.now.gain }
+    requires high { arc.now.gain ≤ℤ pos (2 ^ 40) }
+    ensures risen { old.now ≤ℤ result }
+    ensures over { (after.now +ℤ arc.now.gain) ≤ℤ result }
+    ensures least { (most : ℤ) → old.now ≤ℤ most → (after.now +ℤ arc.now.gain) ≤ℤ most → result ≤ℤ most }
+{
+    let most = *after + arc.gain;
+    if *old < most { most } else { *old }
+}
+
+/// Raises the numbers of a place to what an arc gains before those of the place where it leads.
+fn raise<R: Resource, C: Coarse<R>>(
+    here: &mut [i64],
+    there: &[i64],
+    arc: &Arc<R::Step>,
+    by: &C::Move,
+)
+    requires few { length here.old ≤ 2 ^ 32 }
+    requires stays { (state next : ℕ) → state < length here.old → C.moves by.now state ≡ Some next → next < length there.now }
+    requires between { IsBetween 2000 there.now }
+    requires low { neg_ℤ (pos (2 ^ 40)) ≤ℤ arc.now.gain }
+    requires high { arc.now.gain ≤ℤ pos (2 ^ 40) }
+    ensures raised { RaisedBy (C.moves by.now) there.now arc.now.gain here.old here.new }
+{
+    for state in 0..here.len() {
+        let Some(next) = C::moves(by, state as u32) else {
+            continue;
+        };
+        let most = higher(&here[state], &there[next as usize], arc);
+        here[state] = most;
+    }
+}
+
+/// The row of the table that stands so far back from the sink.
+fn row_of(table: &[i64], back: usize, count: usize) -> &[i64]
+    requires within { (back + 1) * count ≤ length table.now }
+    ensures long { length result.now ≡ count }
+    ensures at { (state : ℕ) → state < count → get_or result.now state (pos 0) ≡ get_or table.now (back * count + state) (pos 0) }
+{
+    let first = back * count;
+    &table[first..first + count]
+}
+
+/// The numbers of a place, by the rows of the later ones.
+fn place_row<R: Resource, C: Coarse<R>>(
+    row: &mut [i64],
+    graph: &Graph<R>,
+    place: u32,
+    leaving: &[u32],
+    coarse: &C,
+    table: &[i64],
+)
+    requires inside { place < graph.now.places }
+    requires leaving { Leaving graph.now.arcs place leaving.now }
+    requires follows { follows (C.fits_step coarse.now) (C.fits_end coarse.now) graph.now ≡ true }
+    requires wide { length row.old ≡ C.count coarse.now }
+    requires long { length table.now ≡ (graph.now.places - 1 - place) * C.count coarse.now }
+    requires between { IsBetween (graph.now.places - 1 - place) table.now }
+    ensures between { IsBetween (graph.now.places - place) row.new }
+    ensures covers { (number : ℕ) (arc : ArcOf R.Step) → slice_get graph.now.arcs number ≡ Some arc → arc.from ≡ place → GoesBack (λ step. C.moves (C.move_of coarse.now step)) (C.count coarse.now) (graph.now.places - 1) table.now row.new arc }
+{
+    let sink = sink_of(graph);
+    let arcs = graph.arcs();
+    clear(row);
+    for &number in leaving {
+        let arc = &arcs[number as usize];
+        let there = row_of(table, (sink - arc.to) as usize, coarse.count());
+        let by = coarse.move_of(&arc.step);
+        raise::<R, C>(row, there, arc, &by);
+    }
+}
+
+/// What chains may still gain in the graph, by the states of a view that follows it.
+pub fn coarse_rest<R: Resource, C: Coarse<R> + Drop>(
+    alloc: Global,
+    graph: &Graph<R>,
+    ways: &Ways,
+    coarse: C,
+) -> Result<CoarseRest<C>, Memory>
+    requires ways { AreWays graph.now.arcs graph.now.places ways.now }
+    requires follows { follows (C.fits_step coarse) (C.fits_end coarse) graph.now ≡ true }
+    ensures rest { IfOk result (λ rest. IsRest R.extend R.done graph.now (rested C.count C.shows rest)) }
+{
+    let sink = sink_of(graph);
+    let mut row = sink_row(alloc, &coarse)?;
+    let mut table = Vec::new(alloc);
+    table.extend_from_slice(&row)?;
+    for back in 1..sink + 1 {
+        let place = sink - back;
+        place_row(&mut row, graph, place, ways.from(place), &coarse, &table);
+        table.extend_from_slice(&row)?;
+    }
+    Ok(CoarseRest {
+        coarse,
+        sink,
+        table,
+    })
+}
