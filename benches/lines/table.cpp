@@ -1,7 +1,7 @@
 // Counts by a table what a label setter over credit in whole hours and eight bids keeps, for the pairings that `items`
 // prints: arcs, steps, labels, and the greatest weight of a line of 70 to 90 hours. No label is compared with another
 // here: the table has a place for each set of bids, sum of hours rounded down, and hours that rounding up adds.
-// Its one word is the set of bids to look at, 0 to 255.
+// Its first word is the set of bids to look at, 0 to 255; its second a floor, where the member's bids have one.
 #include <algorithm>
 #include <cstdio>
 #include <cstdlib>
@@ -10,6 +10,7 @@
 using namespace std;
 
 const int HIGH = 90, LOW = 70, HOURS = HIGH + 1, GAPS = 26, SETS = 256, NONE = -1000000000;
+const int WEIGHTS[] = {120, 100, 80, 60, 50, 40, 30, 20};  // of the bids in `month`
 struct Item { int report, release, credit, weight, clears, sets; };
 using Table = vector<int>;
 
@@ -50,6 +51,14 @@ long labels(const Table& table) {
     return count;
 }
 
+// What the bids weigh that are not in the set: those that a line with the set has not granted.
+int granted(int set) {
+    int sum = 0;
+    for (int bid = 0; bid < 8; bid++)
+        if (!(set >> bid & 1)) sum += WEIGHTS[bid];
+    return sum;
+}
+
 Table extended(const Table& before, const Item& item) {
     Table after(before.size(), NONE);
     int hours = item.credit / 60, gap = (item.credit + 59) / 60 - hours;
@@ -64,7 +73,7 @@ Table extended(const Table& before, const Item& item) {
 }
 
 int main(int words, char** word) {
-    int bids = words > 1 ? atoi(word[1]) : 255, count;
+    int bids = words > 1 ? atoi(word[1]) : 255, floor = words > 2 ? atoi(word[2]) : 0, count;
     cin >> count;
     vector<Item> items(count);
     for (Item& it : items) {
@@ -95,7 +104,7 @@ int main(int words, char** word) {
     all += last, most = max(most, last);
     int best = NONE;
     for (int set = 0; set < SETS; set++)
-        for (int down = 0; down < HOURS; down++)
+        for (int down = 0; down < HOURS && granted(set) >= floor; down++)
             for (int gap = max(0, LOW - down); gap < GAPS; gap++) best = max(best, open[at(set, down, gap)]);
     printf("%ld arcs, %ld steps, %ld labels, at most %ld at a place\nweight %d\n", arcs, steps, all, most, best);
 }

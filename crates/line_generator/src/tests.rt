@@ -13,7 +13,9 @@ use duty_calendar::{
     Base, Duty, Flown, Horizon, Leg, List, Member, Memory, Name, Pairing, Rules, Station,
 };
 use label_lattice::Steps;
-use line_lens::{LensFault, lens_line, line_graph, standard_lens};
+use line_lens::{
+    LensFault, asks_nothing, lens_line, line_graph, narrow_lens, standard_lens, take_graph,
+};
 use roster_model::{Bid, Decision, Goal, Lens, Line, Node, Problem, Wish};
 use std::alloc::Global;
 use std::marker::Brand;
@@ -386,5 +388,58 @@ fn a_line_passes_and_is_a_chain(rt: HostRuntime) -> Result<(), BestFault> {
     let (places, passes) = of_first(alloc, &problem)?;
     assert!(rt; places.as_slice() == [1, 0, 1].as_slice());
     assert!(rt; passes);
+    Ok(())
+}
+
+/// What the arcs of the first member's graph add to lines.
+fn arcs_of_first(alloc: Global, problem: &Problem) -> Result<List<u32>, Memory>
+    requires some { 0 < length problem.now.base.members }
+    requires one { length problem.now.base.pairings ≡ 1 }
+{
+    let goal = Goal {
+        floors: List::new(alloc),
+        grant: None,
+    };
+    let node = Node::new(alloc);
+    let lens = standard_lens(alloc, problem, 0);
+    let graph = take_graph::<1>(alloc, problem, 0, &goal, &node, &lens, &[1])?;
+    Ok(graph.adds)
+}
+
+#[test]
+fn one_arc_takes_the_pairing(rt: HostRuntime) -> Result<(), BestFault> {
+    let alloc = rt.alloc();
+    let problem = alone(alloc, tenth(alloc, 300)?, 0, 5400)?;
+    let adds = arcs_of_first(alloc, &problem)?;
+    assert!(rt; adds.as_slice() == [1, 1, 0].as_slice());
+    Ok(())
+}
+
+/// What the last member's standard lens tracks once it is narrowed for the goal with these floors, and whether that goal
+/// asks nothing of it.
+fn narrowed(alloc: Global, problem: &Problem, floors: List<u32>) -> Result<(u64, bool), Memory>
+    requires some { 0 < length problem.now.base.members }
+    requires floors { length floors ≤ length problem.now.base.members }
+{
+    let member = problem.base.members.len() as u32 - 1;
+    let goal = Goal {
+        floors,
+        grant: None,
+    };
+    let lens = standard_lens(alloc, problem, member);
+    let asks_nothing = asks_nothing(problem, member, &goal, &lens);
+    let narrow = narrow_lens(alloc, problem, member, &goal, &lens)?;
+    Ok((narrow.tracked, asks_nothing))
+}
+
+#[test]
+fn a_lens_tracks_what_the_goal_asks(rt: HostRuntime) -> Result<(), BestFault> {
+    let alloc = rt.alloc();
+    let problem = contest(alloc)?;
+    let (tracked, asks_nothing) = narrowed(alloc, &problem, with(List::new(alloc), 10)?)?;
+    assert!(rt; tracked == 0 && asks_nothing);
+    let floors = with(with(List::new(alloc), 10)?, 1)?;
+    let (tracked, asks_nothing) = narrowed(alloc, &problem, floors)?;
+    assert!(rt; tracked == 1 && !asks_nothing);
     Ok(())
 }

@@ -30,18 +30,18 @@ use Rattle.line_lens.specs.declared.chart.Chart.{Chart}
 use Rattle.line_lens.specs.declared.chart.Place.{Place}
 use Rattle.line_lens.specs.declared.masks.Mark.{Mark}
 use Rattle.line_lens.specs.declared.masks.Mark.TheVariants.{Start, Clear, Set}
-use Rattle.line_lens.specs.Apart.{may_visit, is_near}
-use Rattle.line_lens.specs.BusyDays.{is_fixed_busy, added_days, day_step}
+use Rattle.line_lens.specs.BusyDays.{is_fixed_busy}
 use Rattle.line_lens.specs.Charts.{of_place, chart_sink, chart_may, chart_must, chart_near, chart_gain, time_event, time_events, chart_free, chart_days, chart_step, no_bids, IsPlace, IsChart, IsItemOrder}
 use Rattle.line_lens.specs.Clear.{base_of, may_fly, must_fly}
 use Rattle.line_lens.specs.DutyTimes.{is_timed, AreTimes}
-use Rattle.line_lens.specs.FreeBlocks.{last_block, item_least, free_step}
+use Rattle.line_lens.specs.FreeBlocks.{last_block, item_least}
 use Rattle.line_lens.specs.Items.{visited_flights, item_count, item_begins, item_rests, item_span, item_events, may_visit_item, must_visit_item, is_base_open}
-use Rattle.line_lens.specs.Joins.{joins_by}
-use Rattle.line_lens.specs.LineLabels.{StepOf, label_step}
+use Rattle.line_lens.specs.Joins.{joins_by, AreArcs}
+use Rattle.line_lens.specs.LineLabels.{StepOf}
 use Rattle.line_lens.specs.DayMasks.{IsDayMask}
 use Rattle.line_lens.specs.Masks.{IsMask}
-use Rattle.line_lens.specs.Walks.{AreArcs}
+use Rattle.line_lens.proofs.Apart.{may_visit, is_near}
+use Rattle.line_lens.proofs.ItemSteps.{added_days, day_step, free_step, label_step}
 use Rattle.line_lens.specs.WindowMinutes.{spread}
 use Rattle.line_lens.proofs.Blocks.{Lies, last_block_is, last_block_most, last_block_some, last_block_none}
 use Rattle.line_lens.proofs.ChainLines.{joined_places}
@@ -203,7 +203,7 @@ module _ {N : ℕ} (problem : Problem) (member : ℕ) (node : List Decision) (le
   pub must_same : (j : ℕ) → chart_must chart j ≡ must_visit_item problem member node lens (adds j)
   must_same j = at_place (λ p. p.must) false (must_visit_item problem member node lens) (λ item place p. p.must) (none_tests (must_fly member node count)) j
 
-  begins_same : (j : ℕ) → of_place (λ p. p.begins) 0 chart j ≡ item_begins problem member lens (adds j)
+  pub begins_same : (j : ℕ) → of_place (λ p. p.begins) 0 chart j ≡ item_begins problem member lens (adds j)
   begins_same j = at_place (λ p. p.begins) 0 (item_begins problem member lens) (λ item place p. p.begins) (sym none_begins) j
 
   pub near_same : (i j : ℕ) → chart_near chart i j ≡ is_near (item_begins problem member lens) (item_rests problem member lens) adds (item_count problem member lens + 1) i j
@@ -248,7 +248,7 @@ module _ {N : ℕ} (problem : Problem) (member : ℕ) (node : List Decision) (le
           → IsMask problem member lens (mark (item_count problem member lens)) 0 → (j : ℕ) → IsMask problem member lens (mark (adds j)) (of_place f 0 chart j)
       by f mark holds none j = by_place (λ item o. IsMask problem member lens (mark item) (option_map_or f o 0)) holds none j
 
-  of_some : {A : Type 0} (f : Place N → A) (other : A) (j : ℕ) (place : Place N) → slice_get chart.places.items j ≡ Some place → of_place f other chart j ≡ f place
+  pub of_some : {A : Type 0} (f : Place N → A) (other : A) (j : ℕ) (place : Place N) → slice_get chart.places.items j ≡ Some place → of_place f other chart j ≡ f place
   of_some f other j place e = ap (λ (o : Option (Place N)). option_map_or f o other) e
 
   free_same : (i j : ℕ) (a : PlacedAt i) (b : PlacedAt j) → chart_free chart i j ≡ free_step problem member lens adds i j
@@ -292,7 +292,7 @@ module _ {N : ℕ} (problem : Problem) (member : ℕ) (node : List Decision) (le
           ∙ asked lens.free30 true on
       go false off = chosen chart.free30 lens.free30 false is.looks_at_free off ∙ asked lens.free30 false off
 
-  days_same : (i j : ℕ) (a : PlacedAt i) (b : PlacedAt j) → chart_days chart i j ≡ day_step problem member lens adds i j
+  pub days_same : (i j : ℕ) (a : PlacedAt i) (b : PlacedAt j) → chart_days chart i j ≡ day_step problem member lens adds i j
   days_same i j a b = go lens.days refl
     where
       step : LeastStep
@@ -342,9 +342,9 @@ module _ {N : ℕ} (problem : Problem) (member : ℕ) (node : List Decision) (le
       go true on = chosen chart.days lens.days true is.looks_at_days on ∙ build _ _ _ _ (counted on) (is.most_days on) ∙ asked lens.days true on
       go false off = chosen chart.days lens.days false is.looks_at_days off ∙ asked lens.days false off
 
-  pub step_same : (i j : ℕ) → i < j → j < item_count problem member lens + 2 → chart_step chart i j ≡ label_step {N = N} problem member lens adds clears sets i j
-  step_same i j lt inside =
-      let a = placed_at i (omega arith) in
+  pub step_same_at : (i j : ℕ) → i < item_count problem member lens + 2 → j < item_count problem member lens + 2 → chart_step chart i j ≡ label_step {N = N} problem member lens adds clears sets i j
+  step_same_at i j first inside =
+      let a = placed_at i first in
       let b = placed_at j inside in
       whole _ _ _ _ _ _ _ _ _ _
       (credit _ _ _ _ _ _ (of_some (λ p. p.down) 0 j b.place b.here ∙ b.is_of.down) (of_some (λ p. p.up) 0 j b.place b.here ∙ b.is_of.up) is.most_credit)
@@ -365,6 +365,9 @@ module _ {N : ℕ} (problem : Problem) (member : ℕ) (node : List Decision) (le
 
       usage : (a b c d : List ℕ) → a ≡ b → c ≡ d → ◌≡◌ {A = UsageStep N} (record { amounts = a; caps = c }) (record { amounts = b; caps = d })
       usage a b c d p q = rw (p, q) refl
+
+  pub step_same : (i j : ℕ) → i < j → j < item_count problem member lens + 2 → chart_step chart i j ≡ label_step {N = N} problem member lens adds clears sets i j
+  step_same i j lt inside = step_same_at i j (omega arith) inside
 
   -- arcs between the places of the chart are those of the line graph
   pub arcs_same : (arcs : List (Arc (StepOf N))) → AreArcs (joins_by (chart_may chart) (chart_must chart) (chart_near chart)) (chart_gain chart) (chart_step chart) arcs

@@ -22,8 +22,8 @@ use Rattle.roster_model.specs.Scores.{is_flown}
 use Rattle.roster_model.specs.Goals.{Obeys}
 use Rattle.roster_model.specs.Timelines.{history_of, fixed_of, events_of, coming_events, pairings_of, occupied}
 use Rattle.roster_model.specs.Spans.{duty_event, duty_events, first_report, last_release, pairing_span, event_span}
-use Rattle.line_lens.specs.Apart.{IsApartLine}
-use Rattle.line_lens.specs.Clear.{is_tired_by, is_crossing, duties_of, base_of, is_base_rested, is_clear, may_fly, must_fly, begins_at, rests_until}
+use Rattle.line_lens.proofs.Apart.{IsApartLine, begins_at, rests_until}
+use Rattle.line_lens.specs.Clear.{is_tired_by, is_crossing, duties_of, base_of, is_base_rested, is_clear, may_fly, must_fly}
 use Rattle.line_lens.proofs.Resting.{Lasts, NotEmpty, Disjoint, crossing_not, disjoint_from, all_rested, none_tired, none_parts, or_false}
 use Rattle.line_lens.proofs.Following.{AreDuties, InOrder, Fit, last_after, follows_or, fit_from_or, self_clear}
 use Rattle.line_lens.proofs.LineParts.{Splits, flights_split, events_split, EachOf, joined, parted, all_flat, all_of, each_of, PairsBy, pairs_to, pairs_from, all_join, all_first, all_second, pairs_join, pairs_second, pairs_cross, flown_cases, two_to, two_from}

@@ -22,10 +22,11 @@ use Rattle.roster_model.specs.Scores.{is_flown}
 use Rattle.roster_model.specs.Spans.{duty_event, duty_events, first_report, last_release}
 use Rattle.roster_model.specs.Timelines.{history_of, fixed_of, events_of, coming_events, pairings_of}
 use Rattle.line_lens.specs.Clear.{duties_of, base_of}
-use Rattle.line_lens.specs.FreeBlocks.{free_step, last_block, least_start, item_least}
+use Rattle.line_lens.specs.FreeBlocks.{last_block, least_start, item_least}
 use Rattle.line_lens.specs.Items.{visited_flights, item_count, item_begins, item_rests, item_events}
-use Rattle.line_lens.specs.Places.{is_added}
-use Rattle.line_lens.specs.Walks.{along}
+use Rattle.line_lens.proofs.ItemSteps.{free_step}
+use Rattle.line_lens.proofs.Places.{is_added}
+use Rattle.line_lens.proofs.Walks.{along}
 use Rattle.line_lens.proofs.Blocks.{IsLatest, none_yet, Agree, IsBusyAt, split_block, latest_step, is_served_by, served_from, Asks, least_asks, asks_least}
 use Rattle.line_lens.proofs.Completing.{Completes, still}
 use Rattle.line_lens.proofs.Fitting.{IsSoundMonth, small_of}

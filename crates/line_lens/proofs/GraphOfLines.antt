@@ -35,11 +35,10 @@ use Rattle.line_lens.specs.declared.masks.Mark.{Mark}
 use Rattle.line_lens.specs.declared.masks.Mark.TheVariants.{Start, Set}
 use Rattle.line_lens.specs.Charts.{of_place, chart_sink, chart_may, chart_must, chart_near, chart_gain, chart_step, IsChart, IsItemOrder}
 use Rattle.line_lens.specs.Items.{item_count, item_begins, item_rests, is_base_open}
-use Rattle.line_lens.specs.Joins.{joins_by}
+use Rattle.line_lens.specs.Joins.{joins_by, AreArcs}
 use Rattle.line_lens.specs.LineGraphs.{added_by, StandsForLines}
 use Rattle.line_lens.specs.LineLabels.{LabelOf, StepOf, EndOf, label_below, label_extend, label_done, label_start, label_end}
 use Rattle.line_lens.specs.Masks.{IsMask, IsBidsEnd, is_bit, is_marked}
-use Rattle.line_lens.specs.Walks.{AreArcs}
 use Rattle.line_lens.proofs.Charted.{adds, clears, sets, marked, arcs_same, items_long, joins_same}
 use Rattle.line_lens.proofs.ChainLines.{joined_places}
 use Rattle.line_lens.proofs.MaskBits.{AreMarked}
@@ -127,7 +126,7 @@ standard_items problem member lens standard = go lens.free30 standard.free30
     go true e = absurd (false≢true (sym e))
 
 -- a mask of the bids that a standard lens tracks has eight bits
-few_bits : (mask : ℕ) → ((b : ℕ) → 8 ≤ b → bit_at mask b ≡ 0) → mask < 256
+pub few_bits : (mask : ℕ) → ((b : ℕ) → 8 ≤ b → bit_at mask b ≡ 0) → mask < 256
 few_bits mask none =
     let same : bit_and (2 ^ 8 - 1) mask ≡ mask = same_from_bits _ _ (λ i. elim (cases_lt i 8) [
       | inl low ↦ bit_at_and (2 ^ 8 - 1) mask i ∙ both (bit_at (2 ^ 8 - 1) i) (bit_at mask i) (bit_at_ones 8 i low) (bit_at-lt mask i)

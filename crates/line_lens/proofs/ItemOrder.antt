@@ -22,7 +22,7 @@ use Rattle.roster_model.specs.declared.proof.Lens.{Lens}
 use Rattle.roster_model.specs.Spans.{first_report, event_span}
 use Rattle.roster_model.specs.Timelines.{fixed_of}
 use Rattle.roster_model.proofs.Counting.{filter-range-agree}
-use Rattle.line_lens.specs.Places.{is_added, line_of}
+use Rattle.line_lens.proofs.Places.{is_added, line_of}
 use Rattle.line_lens.specs.Charts.{IsItemOrder}
 use Rattle.line_lens.specs.Items.{visited_flights, item_count, item_begins, item_rests}
 use Rattle.line_lens.proofs.SoundMonth.{sound_month}

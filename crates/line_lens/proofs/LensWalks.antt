@@ -18,9 +18,11 @@ use Rattle.line_lens.specs.declared.chart.Chart.{Chart}
 use Rattle.line_lens.specs.declared.masks.Mark.TheVariants.{Start}
 use Rattle.line_lens.specs.Charts.{chart_may, chart_must, chart_near, chart_step, IsChart, IsItemOrder}
 use Rattle.line_lens.specs.Clear.{must_fly}
-use Rattle.line_lens.specs.Items.{item_count, item_begins, item_rests, is_base_open, is_visited}
+use Rattle.line_lens.specs.Items.{item_count, item_begins, item_rests, is_base_open}
 use Rattle.line_lens.specs.Joins.{joins_by}
-use Rattle.line_lens.specs.LineLabels.{LabelOf, EndOf, label_extend, label_done, label_start, label_end, label_step}
+use Rattle.line_lens.proofs.Apart.{is_visited}
+use Rattle.line_lens.proofs.ItemSteps.{label_step}
+use Rattle.line_lens.specs.LineLabels.{LabelOf, EndOf, label_extend, label_done, label_start, label_end}
 use Rattle.line_lens.specs.Masks.{IsMask, IsBidsEnd}
 use Rattle.line_lens.specs.Passes.{goes_by, is_stop, passes, stops_on}
 use Rattle.line_lens.proofs.BaseOpen.{lens_line_fits, lens_line_opens}

@@ -21,11 +21,12 @@ use Rattle.roster_model.specs.declared.proof.Window.{Window}
 use Rattle.roster_model.specs.Lenses.{IsStandardLens, floor_to, ceil_to}
 use Rattle.roster_model.specs.Legality.{high_of}
 use Rattle.roster_model.specs.Timelines.{fixed_of}
-use Rattle.line_lens.specs.LineLabels.{LabelOf, StepOf, label_below, label_extend, label_start, label_step}
+use Rattle.line_lens.specs.LineLabels.{LabelOf, StepOf, label_below, label_extend, label_start}
 use Rattle.line_lens.specs.Clear.{base_of}
-use Rattle.line_lens.specs.Credits.{credit_at}
 use Rattle.line_lens.specs.Items.{item_count, item_events}
-use Rattle.line_lens.specs.Walks.{and_then, run, walks, along, stops_of, AreArcs}
+use Rattle.line_lens.proofs.ItemSteps.{label_step, credit_at}
+use Rattle.line_lens.proofs.Walks.{and_then, run, walks, along, stops_of}
+use Rattle.line_lens.specs.Joins.{AreArcs}
 use Rattle.line_lens.specs.WindowMinutes.{base_usage, spread, window_minutes, kind_limit}
 use Rattle.line_lens.proofs.FewLabels.{few_by_code}
 use Rattle.line_lens.proofs.Paths.{walked}

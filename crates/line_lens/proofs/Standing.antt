@@ -26,16 +26,16 @@ use Rattle.roster_model.specs.Legality.{low_of, high_of}
 use Rattle.roster_model.specs.Lenses.{IsLensLine, KeepsWindow, is_tracked, floor_to, ceil_to, lens_score, rounded_credit}
 use Rattle.roster_model.specs.Weights.{weight_at, weight_of, total}
 use Rattle.roster_model.proofs.Counting.{filter-range-agree}
-use Rattle.line_lens.specs.BusyDays.{fixed_busy_days, day_step}
+use Rattle.line_lens.specs.BusyDays.{fixed_busy_days}
 use Rattle.line_lens.specs.Clear.{must_fly}
-use Rattle.line_lens.specs.Credits.{credit_at, span_step, mask_step}
-use Rattle.line_lens.specs.FreeBlocks.{free_step}
 use Rattle.line_lens.specs.Items.{item_count, item_begins, item_rests, is_base_open}
 use Rattle.line_lens.specs.LineGraphs.{chain_line, StandsForLines}
-use Rattle.line_lens.specs.LineLabels.{LabelOf, StepOf, EndOf, label_extend, label_done, label_start, label_end, label_step}
-use Rattle.line_lens.specs.Places.{is_added, line_of}
-use Rattle.line_lens.specs.Walks.{run, along, stops_of, AreArcs}
-use Rattle.line_lens.specs.WindowMinutes.{base_usage, usage_step}
+use Rattle.line_lens.specs.LineLabels.{LabelOf, StepOf, EndOf, label_extend, label_done, label_start, label_end}
+use Rattle.line_lens.proofs.ItemSteps.{day_step, credit_at, span_step, mask_step, free_step, label_step, usage_step}
+use Rattle.line_lens.proofs.Places.{is_added, line_of}
+use Rattle.line_lens.proofs.Walks.{run, along, stops_of}
+use Rattle.line_lens.specs.Joins.{AreArcs}
+use Rattle.line_lens.specs.WindowMinutes.{base_usage}
 use Rattle.line_lens.proofs.BaseOpen.{lens_line_fits, lens_line_opens}
 use Rattle.line_lens.proofs.ChainLines.{joined_places, line_stops, visited, chain_line as line_of_chain, line_chain}
 use Rattle.line_lens.proofs.Completing.{Completes}

@@ -17,7 +17,7 @@ use Rattle.label_lattice.specs.Pair.{pair_extend, pair_done}
 use Rattle.label_lattice.specs.Span.{span_extend, span_done}
 use Rattle.label_lattice.specs.Usage.{usage_extend}
 use Rattle.line_lens.specs.LineLabels.{LabelOf, StepOf, EndOf, label_extend, label_done}
-use Rattle.line_lens.specs.Walks.{along}
+use Rattle.line_lens.proofs.Walks.{along}
 use Rattle.line_lens.proofs.Completing.{Completes, pair_completes, completes_first, completes_second}
 
 abbrev any_done : {R : Type 0} → R → Unit {0} → Bool

@@ -1,7 +1,4 @@
-pub mod Walks
 pub mod Joins
-pub mod Places
-pub mod Apart
 pub mod Clear
 pub mod Hits
 pub mod Items
@@ -10,10 +7,12 @@ pub mod DutyTimes
 pub mod BusyDays
 pub mod DayMasks
 pub mod WindowMinutes
-pub mod Credits
 pub mod LineLabels
 pub mod LineGraphs
 pub mod LensFaults
 pub mod Masks
 pub mod Charts
 pub mod Passes
+pub mod Takes
+pub mod Loose
+pub mod TakeLabels

@@ -1,5 +1,11 @@
 -- The labels of a line graph: credit, bids, free blocks, busy days and windows, side by side.
 use Rattle.std.specs.Prelude.{ℕ, Bool, true, sum_by, Option}
+use Rattle.label_lattice.specs.Latest.{latest_extend, latest_below}
+use Rattle.label_lattice.specs.Least.{least_extend, least_below}
+use Rattle.label_lattice.specs.Mask.{mask_extend, mask_below, mask_done}
+use Rattle.label_lattice.specs.Pair.{pair_below, pair_extend, pair_done}
+use Rattle.label_lattice.specs.Span.{span_extend, span_below, span_done}
+use Rattle.label_lattice.specs.Usage.{usage_extend, usage_below}
 use Rattle.label_lattice.specs.declared.counters.Usage.{Usage}
 use Rattle.label_lattice.specs.declared.counters.UsageStep.{UsageStep}
 use Rattle.label_lattice.specs.declared.masks.Mask.{Mask}
@@ -13,21 +19,12 @@ use Rattle.label_lattice.specs.declared.values.Latest.{Latest}
 use Rattle.label_lattice.specs.declared.values.LatestStep.{LatestStep}
 use Rattle.label_lattice.specs.declared.values.Least.{Least}
 use Rattle.label_lattice.specs.declared.values.LeastStep.{LeastStep}
-use Rattle.label_lattice.specs.Latest.{latest_extend, latest_below}
-use Rattle.label_lattice.specs.Least.{least_extend, least_below}
-use Rattle.label_lattice.specs.Mask.{mask_extend, mask_below, mask_done}
-use Rattle.label_lattice.specs.Pair.{pair_below, pair_extend, pair_done}
-use Rattle.label_lattice.specs.Span.{span_extend, span_below, span_done}
-use Rattle.label_lattice.specs.Usage.{usage_extend, usage_below}
+use Rattle.roster_model.specs.Legality.{low_of}
+use Rattle.roster_model.specs.Timelines.{fixed_of}
 use Rattle.roster_model.specs.declared.problem.Problem.{Problem}
 use Rattle.roster_model.specs.declared.proof.Lens.{Lens}
-use Rattle.roster_model.specs.Legality.{low_of, high_of}
-use Rattle.roster_model.specs.Lenses.{floor_to, ceil_to}
-use Rattle.roster_model.specs.Timelines.{fixed_of}
-use Rattle.line_lens.specs.BusyDays.{day_step, fixed_busy_days}
-use Rattle.line_lens.specs.Credits.{credit_at, span_step, mask_step}
-use Rattle.line_lens.specs.FreeBlocks.{free_step}
-use Rattle.line_lens.specs.WindowMinutes.{base_usage, usage_step}
+use Rattle.line_lens.specs.BusyDays.{fixed_busy_days}
+use Rattle.line_lens.specs.WindowMinutes.{base_usage}
 
 abbrev pub LabelOf : ℕ → Type 0
 LabelOf N = Pair Span (Pair Mask (Pair Latest (Pair Least (Usage N))))
@@ -69,16 +66,3 @@ label_start {N} problem member lens bits = record {
 -- what the sink asks
 abbrev pub label_end : Problem → ℕ → MaskEnd → EndOf
 label_end problem member bids = (record { low = low_of problem member }, (bids, (tt, (tt, tt))))
-
--- what the way from one place to another makes of a label
-abbrev pub label_step : {N : ℕ} → Problem → ℕ → Lens → (ℕ → ℕ) → (ℕ → ℕ) → (ℕ → ℕ) → ℕ → ℕ → StepOf N
-label_step problem member lens adds clear set i j = (
-  span_step
-      (credit_at problem (floor_to lens.grain) adds)
-      (credit_at problem (ceil_to lens.grain) adds)
-      (high_of problem member) i j,
-  (
-    mask_step clear set i j,
-    (free_step problem member lens adds i j, (day_step problem member lens adds i j, usage_step problem member lens adds i j)),
-  ),
-)

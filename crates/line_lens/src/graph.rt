@@ -17,9 +17,6 @@ use label_setter::Graph;
 use roster_model::{Goal, Lens, Node, Problem};
 use std::alloc::Global;
 
-/// Labels with room for more windows want more memory than there is.
-const MOST_WINDOWS: usize = 4096;
-
 /// Busy days, beside the minutes in windows.
 pub type DayLabel<const N: usize> = Pair<Least, Usage<N>>;
 
@@ -57,13 +54,11 @@ pub fn line_graph<const N: usize>(
     requires per_pairing { length weights.now ≡ length problem.now.base.pairings }
     requires small { AreSmallWeights weights.now }
     requires windows { length lens.now.windows ≤ N }
+    requires in_range { N ≤ 4096 }
     ensures stands { IfOk result (λ g. StandsForLines label_extend label_done g.graph g.places problem.now member goal.now node.now lens.now weights.now) }
     ensures few { IfOk result (λ g. IsStandardLens problem.now member lens.now → length g.graph.arcs ≤ (length problem.now.base.pairings + 1) * (length problem.now.base.pairings + 1)) }
     ensures labels { IfOk result (λ g. IsStandardLens problem.now member lens.now → FewApart label_below label_extend g.graph.start g.graph.arcs (256 * (length problem.now.base.pairings + 1) * (high_of problem.now member / 60 + 1))) }
 {
-    if N > MOST_WINDOWS {
-        return Err(Memory::NoMemory);
-    }
     let items = items_of(alloc, problem, member, lens)?;
     let chart = chart_of::<N>(alloc, problem, member, node, lens, weights, &items)?;
     let start = start_label(problem, member, lens);

@@ -1,8 +1,7 @@
 //! Arcs between the places of a line graph.
 
 ghost use Rattle.std.specs.Prelude.{◌≡◌, ◌+◌, ◌*◌, ◌-◌, ◌<◌, ◌≤◌, ◌^◌, ◌≤ℤ◌, ◌&&◌, [], ℕ, ℤ, Bool, true, false, length, pos, neg_ℤ, OnOk};
-ghost use Rattle.line_lens.specs.Walks.{AreArcs};
-ghost use Rattle.line_lens.specs.Joins.{joins_by, AreArcsSo, SoFar};
+ghost use Rattle.line_lens.specs.Joins.{joins_by, AreArcsSo, SoFar, AreArcs};
 
 use duty_calendar::Memory;
 use label_lattice::Resource;
