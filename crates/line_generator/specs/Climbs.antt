@@ -22,3 +22,13 @@ IsClimbed extend done graph None = ⊤
 abbrev pub Climbs : {R S E : Type 0} → (R → S → Option R) → (R → E → Bool) → GraphOf R S E → ℤ → Climb → Type 0
 Climbs extend done graph over (Top best) = IsClimbed extend done graph best × NoneAbove extend done graph (raised_to best over)
 Climbs extend done graph over (Open best) = IsClimbed extend done graph best
+
+-- the chain that was found last
+abbrev pub later : Option Traced → Option Traced → Option Traced
+later best (Some traced) = Some traced
+later best None = best
+
+-- a climb that began at the gain of the best chain before it
+abbrev pub merged : Option Traced → Climb → Climb
+merged best (Top found) = Top (later best found)
+merged best (Open found) = Open (later best found)

@@ -7,13 +7,15 @@ ghost use Rattle.label_setter.specs.declared.graph.Arc.{Arc};
 ghost use Rattle.label_setter.specs.declared.traces.Traced.{Traced as Way};
 ghost use Rattle.chain_search.specs.Leavings.{AreWays};
 ghost use Rattle.line_lens.specs.TakeLabels.{TakeStepOf, take_done, take_extend};
-ghost use Rattle.line_generator.specs.Climbs.{Climbs, IsClimbed, NoneAbove, raised_to};
+ghost use Rattle.line_generator.specs.Climbs.{Climbs, NoneAbove, later, merged, raised_to};
 
 use crate::climbing::{Climb, climb_chains};
 use crate::search::best_chain;
-use chain_search::{Bits, Due, First, Room, Second, Ways, coarse_rest, follows, least_rest};
+use chain_search::{
+    Bits, Coarse, Due, First, Room, Second, Ways, coarse_rest, follows, least_rest,
+};
 use duty_calendar::Memory;
-use label_lattice::{MaskEnd, Steps};
+use label_lattice::{MaskEnd, Resource, Steps};
 use label_setter::{Above, Graph, Traced};
 use line_lens::TakeLabel;
 use std::alloc::Global;
@@ -67,8 +69,45 @@ fn unit_of<const N: usize>(graph: &Graph<TakeLabel<N>>, cap: u32) -> u32 {
     1
 }
 
-/// A climb by the least of three bounds: by the credit that is left, by the credit that is due, and by bits of bids. It
-/// stays open where one of the views does not follow the graph.
+/// A climb by the least of the bounds that three views give. It stays open where one of them does not follow the graph.
+fn climb_by_views<R, A, B, C, L>(
+    alloc: Global,
+    graph: &Graph<R>,
+    ways: &Ways,
+    first: A,
+    second: B,
+    third: C,
+    over: i64,
+    limit: u64,
+    steps: &mut Steps<L>,
+) -> Result<Climb, Memory>
+where
+    R: Resource,
+    A: Coarse<R> + Drop,
+    B: Coarse<R> + Drop,
+    C: Coarse<R> + Drop,
+    L: Ledger,
+    requires ways { AreWays graph.now.arcs graph.now.places ways.now }
+    ensures climbs { IfOk result (Climbs R.extend R.done graph.now over) }
+{
+    if !follows(graph, &first) {
+        return Ok(Climb::Open(None));
+    }
+    if !follows(graph, &second) {
+        return Ok(Climb::Open(None));
+    }
+    if !follows(graph, &third) {
+        return Ok(Climb::Open(None));
+    }
+    let first = coarse_rest(alloc, graph, ways, first)?;
+    let second = coarse_rest(alloc, graph, ways, second)?;
+    let third = coarse_rest(alloc, graph, ways, third)?;
+    let both = least_rest(graph, first, second);
+    let rest = least_rest(graph, both, third);
+    climb_chains(alloc, graph, ways, Above { rest, over }, limit, steps)
+}
+
+/// A climb by the credit that is left, the credit that is due, and bits of bids.
 fn climb_by_tables<const N: usize, L: Ledger>(
     alloc: Global,
     graph: &Graph<TakeLabel<N>>,
@@ -99,21 +138,7 @@ fn climb_by_tables<const N: usize, L: Ledger>(
     let bits = Second {
         view: First { view: chosen },
     };
-    if !follows(graph, &room) {
-        return Ok(Climb::Open(None));
-    }
-    if !follows(graph, &due) {
-        return Ok(Climb::Open(None));
-    }
-    if !follows(graph, &bits) {
-        return Ok(Climb::Open(None));
-    }
-    let room = coarse_rest(alloc, graph, ways, room)?;
-    let due = coarse_rest(alloc, graph, ways, due)?;
-    let bits = coarse_rest(alloc, graph, ways, bits)?;
-    let credit = least_rest(graph, room, due);
-    let rest = least_rest(graph, credit, bits);
-    climb_chains(alloc, graph, ways, Above { rest, over }, limit, steps)
+    climb_by_views(alloc, graph, ways, room, due, bits, over, limit, steps)
 }
 
 /// The gain of the chain, where there is one, else the lowest bound.
@@ -123,6 +148,26 @@ fn bound_of(best: &Option<Traced>) -> i64
     match best {
         Some(traced) => traced.gain,
         None => LOWEST,
+    }
+}
+
+/// The chain that was found last.
+fn later(best: Option<Traced>, found: Option<Traced>) -> Option<Traced>
+    ensures later { result ≡ later best found }
+{
+    match found {
+        Some(traced) => Some(traced),
+        None => best,
+    }
+}
+
+/// A climb that began at the gain of the best chain before it.
+fn merged(best: Option<Traced>, climb: Climb) -> Climb
+    ensures merged { result ≡ merged best climb }
+{
+    match climb {
+        Climb::Top(found) => Climb::Top(later(best, found)),
+        Climb::Open(found) => Climb::Open(later(best, found)),
     }
 }
 
@@ -140,11 +185,10 @@ fn climb_by_stages<const N: usize, L: Ledger>(
     let mut best: Option<Traced> = None;
     for (bits, limit) in STAGES {
         let over = bound_of(&best);
-        match climb_by_tables::<N, L>(alloc, graph, &ways, cap, over, bits, limit, steps)? {
-            Climb::Top(None) => return Ok(Climb::Top(best)),
-            Climb::Top(Some(traced)) => return Ok(Climb::Top(Some(traced))),
-            Climb::Open(None) => {}
-            Climb::Open(Some(traced)) => best = Some(traced),
+        let climb = climb_by_tables::<N, L>(alloc, graph, &ways, cap, over, bits, limit, steps)?;
+        match merged(best, climb) {
+            Climb::Top(top) => return Ok(Climb::Top(top)),
+            Climb::Open(open) => best = open,
         }
     }
     Ok(Climb::Open(best))
