@@ -10,7 +10,7 @@ ghost use Rattle.cert_checker.specs.Bests.{IsShapeFault, IsWithin};
 
 use crate::refusal::{ItemFault, StepFault};
 use label_lattice::Steps;
-use line_generator::{BestFault, PricedLine, best};
+use line_generator::{BestFault, PricedLine, heaviest};
 use roster_model::{Goal, Lens, Node, Problem};
 use std::alloc::Global;
 use std::marker::Brand;
@@ -40,7 +40,7 @@ fn best_line<L: Ledger>(
     ensures none { IfOk result (λ answer. IfNone answer (HasNoLine problem.now member goal.now node.now lens.now)) }
 {
     let mut steps: Steps<L> = Steps::new(blank);
-    best(
+    heaviest(
         alloc, problem, member, goal, node, lens, weights, &mut steps,
     )
 }

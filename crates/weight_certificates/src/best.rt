@@ -42,7 +42,7 @@ fn best_from<L: Ledger>(
     ensures none { IfOk result (λ answer. IfNone answer (HasNoLine problem.now member goal.now node.now lens.now)) }
 {
     let mut steps: Steps<L> = Steps::new(blank);
-    best(
+    heaviest(
         alloc, problem, member, goal, node, lens, weights, &mut steps,
     )
 }
