@@ -9,7 +9,7 @@ ghost use Rattle.weight_certificates.specs.Pricing.{IsHeaviestLine};
 
 use duty_calendar::Memory;
 use label_lattice::Steps;
-use line_generator::{BestFault, PricedLine, best};
+use line_generator::{BestFault, PricedLine, heaviest};
 use roster_model::{Goal, Lens, Line, Node, Problem};
 use std::alloc::Global;
 use std::marker::Brand;
