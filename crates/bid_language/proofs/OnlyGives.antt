@@ -9,6 +9,7 @@ use Rattle.duty_calendar.specs.declared.horizon.Horizon.{Horizon}
 use Rattle.duty_calendar.specs.declared.member.Base.{Base}
 use Rattle.duty_calendar.specs.declared.pairing.Pairing.{Pairing}
 use Rattle.duty_calendar.specs.Calendar.{day_zero, month_days}
+use Rattle.duty_calendar.specs.Forms.{is_station_code}
 use Rattle.field_text.specs.declared.field_fault.FieldFault.{FieldFault}
 use Rattle.field_text.specs.Fields.{number_field, clock_field, minutes_field, day_field}
 use Rattle.roster_model.specs.declared.bid.Test.{Test}
@@ -32,7 +33,7 @@ use Rattle.bid_language.specs.declared.keywords.TestKind.TheVariants as test
 use Rattle.bid_language.proofs.FieldBounds.{clock_field-bound, minutes_field-bound}
 use Rattle.bid_language.specs.Keywords.{is_text, test_kind_of, kind_of}
 use Rattle.bid_language.specs.Words.{Spot, Rest, Reader, ◌>>=◌, and_then, done, wrong, or_wrong, next, optional, finished}
-use Rattle.bid_language.specs.Values.{value_of, value_in, number, clock, minutes, pairing, pairing_named, station, weekday, side, bound}
+use Rattle.bid_language.specs.Values.{value_of, value_in, number, clock, minutes, pairing, pairing_named, station_of, station, weekday, side, bound}
 use Rattle.bid_language.specs.Days.{one_of, day_in, day, not_before, later_day, last_day_of, last_day}
 use Rattle.bid_language.specs.Grammar.{report_test, release_test, test_of, test_from, atom_from, atom, begins_atom, too_many, follows, joined, atoms, filter, credit_wish, wish_of, wish, weight_of, weight, room, bid}
 
@@ -116,6 +117,21 @@ only-pairing pairings = only-next word.Name _ _ (λ s. only-if _ _ _ _
     (λ form. only-or_wrong s code.UnknownPairing (pairing_named pairings s.text) _ (λ p e. named-within pairings s.text p e))
     (λ form. only-wrong s (code.Expected word.Name) _))
 
+-- a station that is read has three capital letters
+abbrev pub Coded : List ℕ → Type 0
+Coded s = is_station_code s ≡ true
+
+station_of-coded : (text s : List ℕ) → station_of text ≡ Some s → Coded s
+station_of-coded text s e = by_test (is_station_code text) refl e
+  where
+    by_test : (b : Bool) → is_station_code text ≡ b → (if b then Some text else None) ≡ Some s → Coded s
+    by_test true h f = let same : text ≡ s = cc in subst Coded same h
+    by_test false h f = cc
+
+only-station : Only station Coded
+unfolding station
+only-station = only-next word.Station _ _ (λ s. only-or_wrong s (code.Expected word.Station) (station_of s.text) Coded (λ x e. station_of-coded s.text x e))
+
 -- days
 one_of-bounds : (days n : ℕ) (z : ℤ) → one_of days z ≡ Some n → (365 ≤ n) × (n < 365 + days)
 one_of-bounds days n (pos m) e = by_test (nat_le 365 m && nat_lt m (365 + days)) refl e
@@ -168,9 +184,9 @@ Tests ps t = is_test (length ps) t ≡ true
 
 only-test_of : (ps : List Pairing) (k : TestKind) → Only (test_of ps k) (Tests ps)
 unfolding test_of
-only-test_of ps test.Layover = only-then station _ Known _ (only-known station) (λ s k. only-done _ (Tests ps) refl)
-only-test_of ps test.Departs = only-then station _ Known _ (only-known station) (λ s k. only-done _ (Tests ps) refl)
-only-test_of ps test.Arrives = only-then station _ Known _ (only-known station) (λ s k. only-done _ (Tests ps) refl)
+only-test_of ps test.Layover = only-then station _ Coded _ only-station (λ s k. only-done _ (Tests ps) k)
+only-test_of ps test.Departs = only-then station _ Coded _ only-station (λ s k. only-done _ (Tests ps) k)
+only-test_of ps test.Arrives = only-then station _ Coded _ only-station (λ s k. only-done _ (Tests ps) k)
 only-test_of ps test.Report = only-then side _ Known _ (only-known side) (λ w k. only-then clock _ _ _ only-clock (λ c h. only-done _ (Tests ps) (report-test (length ps) c w h)))
 only-test_of ps test.Release = only-then side _ Known _ (only-known side) (λ w k. only-then clock _ _ _ only-clock (λ c h. only-done _ (Tests ps) (release-test (length ps) c w h)))
 only-test_of ps test.Days = only-then (number 1 40) _ _ _ (only-number 1 40) (λ n h. only-done _ (Tests ps) (days_fit n h.0 h.1))

@@ -23,7 +23,8 @@ use Rattle.roster_model.specs.declared.bid.Wish.TheVariants.{Fly, Avoid, Prefer,
 use Rattle.roster_model.specs.declared.bid.Bid.{Bid}
 use Rattle.roster_model.specs.Valid.{is_test, is_filter, is_wish, IsBid}
 use Rattle.bid_language.specs.Spelling.{weekday_word, name_of, day_word}
-use Rattle.bid_language.proofs.Spelt.{is_station, is_spelt_test, is_spelt_filter, is_spelt_wish}
+use Rattle.duty_calendar.specs.Forms.{is_station_code}
+use Rattle.bid_language.proofs.Spelt.{is_spelt_test, is_spelt_filter, is_spelt_wish}
 use Rattle.bid_language.proofs.BidWords.{test_words, atom_words, more_words, filter_words, to_words, wish_word, wish_values, wish_words}
 use Rattle.bid_language.proofs.DaysAgain.{month_parts}
 use Rattle.bid_language.proofs.TextAgain.{is_plain, is_word}
@@ -95,11 +96,10 @@ capitals-plain : (bs : List ℕ) → list_all is_capital bs ≡ true → list_al
 capitals-plain [] h = refl
 capitals-plain (b ∷ bs) h = let p = and_parts (is_capital b) (list_all is_capital bs) h in and_from (is_plain b) (list_all is_plain bs) (capital-plain b p.0) (capitals-plain bs p.1)
 
-word-station : (w : List ℕ) → is_station w ≡ true → is_word w ≡ true
+word-station : (w : List ℕ) → is_station_code w ≡ true → is_word w ≡ true
 word-station w h =
-    let p = and_parts (nat_le (length w) 3 && nat_le 3 (length w)) (list_all is_capital w) h in
-    let q = and_parts (nat_le (length w) 3) (nat_le 3 (length w)) p.0 in
-    let some : 0 < length w = let a : nat_le 3 (length w) ≡ true = q.1 in grind (arith, nat_tests) in
+    let p = and_parts (length w == 3) (list_all is_capital w) h in
+    let some : 0 < length w = let a : (length w == 3) ≡ true = p.0 in grind (arith, nat_tests) in
     word-of_plain w some (capitals-plain w p.1)
 
 -- words in front of words

@@ -40,7 +40,8 @@ use Rattle.bid_language.specs.Values.{value_of, value_in, number, clock, minutes
 use Rattle.bid_language.specs.Days.{day_in, day, not_before, later_day, last_day}
 use Rattle.bid_language.specs.Grammar.{report_test, release_test, test_of, test_from, atom_from, atom, follows, joined, atoms, filter, credit_wish, wish_of, wish, weight, room, bid}
 use Rattle.bid_language.specs.Spelling.{weekday_word, name_of, day_word}
-use Rattle.bid_language.proofs.Spelt.{is_station, is_spelt_test, is_spelt_filter, is_spelt_wish}
+use Rattle.duty_calendar.specs.Forms.{is_station_code}
+use Rattle.bid_language.proofs.Spelt.{is_spelt_test, is_spelt_filter, is_spelt_wish}
 use Rattle.bid_language.proofs.BidWords.{test_word, test_values, test_words, atom_words, filter_words, to_words, wish_word, wish_values, wish_words}
 
 abbrev pub texts : List Spot → List (List ℕ)
@@ -144,7 +145,7 @@ again-pairing ps p more form found =
     (λ s t. again-if (is_name s.text) _ _ p [] more (ap is_name t ∙ form)
     (again-value s code.UnknownPairing (pairing_named ps s.text) p more (ap (pairing_named ps) t ∙ found)))
 
-again-station : (s : List ℕ) (more : List (List ℕ)) → is_station s ≡ true → Again station s (s ∷ []) more
+again-station : (s : List ℕ) (more : List (List ℕ)) → is_station_code s ≡ true → Again station s (s ∷ []) more
 unfolding station
 again-station s more h = one_word word.Station (λ t. code.Expected word.Station) station_of s s more (rw h refl)
 

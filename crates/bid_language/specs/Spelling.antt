@@ -1,6 +1,6 @@
 -- The one spelling of bids: words with one space between, and lines that end with a line feed.
-use Rattle.std.specs.Prelude.{ℕ, ◌-◌, Bool, true, ◌==◌, List, [], ◌∷◌, ◌++◌, codes, slice_get, unsigned_abs, if◌then◌else◌}
-use Rattle.std.specs.List.{flat_map, list_all}
+use Rattle.std.specs.Prelude.{ℕ, ◌-◌, ◌==◌, List, [], ◌∷◌, ◌++◌, codes, slice_get, unsigned_abs, if◌then◌else◌}
+use Rattle.std.specs.List.{flat_map}
 use Rattle.std.specs.Option.{option_map_or}
 use Rattle.duty_calendar.specs.declared.horizon.Horizon.{Horizon}
 use Rattle.duty_calendar.specs.declared.member.Base.{Base}
@@ -8,7 +8,6 @@ use Rattle.duty_calendar.specs.declared.member.Member.{Member}
 use Rattle.duty_calendar.specs.declared.pairing.Pairing.{Pairing}
 use Rattle.duty_calendar.specs.declared.weekday.Weekday.{Weekday}
 use Rattle.duty_calendar.specs.declared.weekday.Weekday.TheVariants.{Mon, Tue, Wed, Thu, Fri, Sat, Sun}
-use Rattle.duty_calendar.specs.Forms.{is_station_code}
 use Rattle.field_text.specs.Spelling.{number_text, minutes_text, clock_text, day_text}
 use Rattle.roster_model.specs.declared.bid.Test.{Test}
 use Rattle.roster_model.specs.declared.bid.Test.TheVariants.{Layover, Departs, Arrives, ReportBefore, ReportAfter, ReleaseBefore, ReleaseAfter, Days, OnWeekday, Is}
@@ -104,31 +103,3 @@ all_lines base (m ∷ ms) (bs ∷ lists) = member_lines base m bs ++ all_lines b
 
 abbrev pub bids_text : Problem → List ℕ
 bids_text problem = all_lines problem.base problem.base.members problem.bids
-
--- whether each station that a bid speaks of has the form of a station's code
-abbrev pub is_coded_test : Test → Bool
-is_coded_test (Layover s) = is_station_code s
-is_coded_test (Departs s) = is_station_code s
-is_coded_test (Arrives s) = is_station_code s
-is_coded_test (ReportBefore c) = true
-is_coded_test (ReportAfter c) = true
-is_coded_test (ReleaseBefore c) = true
-is_coded_test (ReleaseAfter c) = true
-is_coded_test (Days n) = true
-is_coded_test (OnWeekday w) = true
-is_coded_test (Is p) = true
-
-abbrev pub is_coded_filter : List Atom → Bool
-is_coded_filter atoms = list_all (λ a. is_coded_test a.test) atoms
-
-abbrev pub is_coded_wish : Wish → Bool
-is_coded_wish (Fly p) = true
-is_coded_wish (Avoid f) = is_coded_filter f
-is_coded_wish (Prefer n f) = is_coded_filter f
-is_coded_wish (Off first last) = true
-is_coded_wish (CreditBelow m) = true
-is_coded_wish (CreditAbove m) = true
-is_coded_wish (DaysOff n) = true
-
-abbrev pub are_coded : List (List Bid) → Bool
-are_coded lists = list_all (λ bids. list_all (λ b. is_coded_wish b.wish) bids) lists

@@ -1,8 +1,8 @@
 -- The values of tests and wishes, each a token.
-use Rattle.std.specs.Prelude.{ℕ, ◌&&◌, nat_le, List, length, position, Option, Some, None, Result, Ok, Err, if◌then◌else◌}
+use Rattle.std.specs.Prelude.{ℕ, ◌&&◌, nat_le, List, position, Option, Some, None, Result, Ok, Err, if◌then◌else◌}
 use Rattle.duty_calendar.specs.declared.pairing.Pairing.{Pairing}
 use Rattle.duty_calendar.specs.declared.weekday.Weekday.{Weekday}
-use Rattle.duty_calendar.specs.Forms.{is_name, are_capitals}
+use Rattle.duty_calendar.specs.Forms.{is_name, is_station_code}
 use Rattle.field_text.specs.Fields.{number_field, minutes_field, clock_field}
 use Rattle.field_text.specs.declared.field_fault.FieldFault.{FieldFault}
 use Rattle.bid_language.specs.declared.fault.Word.TheVariants as word
@@ -48,8 +48,7 @@ pairing pairings = do
 
 -- three capitals
 abbrev pub station_of : List ℕ → Option (List ℕ)
-station_of text = if nat_le (length text) 3 && nat_le 3 (length text) && are_capitals text
-    then Some text else None
+station_of text = if is_station_code text then Some text else None
 
 unfoldable pub station : Reader (List ℕ)
 station = do

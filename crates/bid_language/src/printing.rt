@@ -2,10 +2,9 @@
 ghost use Rattle.std.specs.Prelude.{◌≡◌, ◌≤◌, ◌<◌, ◌+◌, ◌++◌, ◌∷◌, codes, true, length, OnOk, OnErr};
 ghost use Rattle.std.specs.List.{list_all};
 ghost use Rattle.duty_calendar.specs.Calendar.{month_days};
-ghost use Rattle.duty_calendar.specs.Forms.{is_station_code};
 ghost use Rattle.field_text.specs.Spelling.{number_text, HasPartly};
-ghost use Rattle.roster_model.specs.Valid.{is_test, is_filter, is_wish, IsBid};
-ghost use Rattle.bid_language.specs.Spelling.{weekday_word, name_of, day_word, test_text, atom_text, more_text, filter_text, to_text, wish_text, bid_text, is_coded_test, is_coded_filter, is_coded_wish};
+ghost use Rattle.roster_model.specs.Valid.{is_test, is_filter, is_wish};
+ghost use Rattle.bid_language.specs.Spelling.{weekday_word, name_of, day_word, test_text, atom_text, more_text, filter_text, to_text, wish_text, bid_text};
 
 use crate::writing::{put_count, put_credit, put_month_day, put_time, put_word};
 use duty_calendar::{Base, Horizon, List, Memory, Pairing, Station, Weekday};
@@ -45,7 +44,6 @@ fn put_name(
 fn put_station(out: &mut List<u8>, front: &[u8], station: Station) -> Result<(), Memory>
     ensures whole { OnOk result (out.new ≡ out.old ++ (front.now ++ station)) }
     ensures partly { OnErr result (HasPartly out.old (front.now ++ station) out.new) }
-    ensures coded { is_station_code station ≡ true }
 {
     put_word(out, front, &station.bytes())
 }
@@ -55,7 +53,6 @@ fn put_test(out: &mut List<u8>, pairings: &[Pairing], test: &Test) -> Result<(),
     requires form { is_test (length pairings.now) test.now ≡ true }
     ensures whole { OnOk result (out.new ≡ out.old ++ test_text pairings.now test.now) }
     ensures partly { OnErr result (HasPartly out.old (test_text pairings.now test.now) out.new) }
-    ensures coded { is_coded_test test.now ≡ true }
 {
     match test {
         Test::Layover(station) => put_station(out, b"layover ", *station),
@@ -79,7 +76,6 @@ fn put_opposite(out: &mut List<u8>, pairings: &[Pairing], test: &Test) -> Result
         ++ (codes "not " ++ test_text pairings.now test.now)) }
     ensures partly { OnErr result (HasPartly out.old
         (codes "not " ++ test_text pairings.now test.now) out.new) }
-    ensures coded { OnOk result (is_coded_test test.now ≡ true) }
 {
     put_bytes(out, b"not ")?;
     put_test(out, pairings, test)
@@ -90,7 +86,6 @@ fn put_atom(out: &mut List<u8>, pairings: &[Pairing], atom: &Atom) -> Result<(),
     requires form { is_test (length pairings.now) atom.now.test ≡ true }
     ensures whole { OnOk result (out.new ≡ out.old ++ atom_text pairings.now atom.now) }
     ensures partly { OnErr result (HasPartly out.old (atom_text pairings.now atom.now) out.new) }
-    ensures coded { OnOk result (is_coded_test atom.now.test ≡ true) }
 {
     if atom.negated {
         return put_opposite(out, pairings, &atom.test);
@@ -106,7 +101,6 @@ fn put_and(out: &mut List<u8>, pairings: &[Pairing], atom: &Atom) -> Result<(), 
         ++ (codes " and " ++ atom_text pairings.now atom.now)) }
     ensures partly { OnErr result (HasPartly out.old
         (codes " and " ++ atom_text pairings.now atom.now) out.new) }
-    ensures coded { OnOk result (is_coded_test atom.now.test ≡ true) }
 {
     put_bytes(out, b" and ")?;
     put_atom(out, pairings, atom)
@@ -117,7 +111,6 @@ fn put_more(out: &mut List<u8>, pairings: &[Pairing], atoms: &[Atom]) -> Result<
     requires form { list_all (λ a. is_test (length pairings.now) a.test) atoms.now ≡ true }
     ensures whole { OnOk result (out.new ≡ out.old ++ more_text pairings.now atoms.now) }
     ensures partly { OnErr result (HasPartly out.old (more_text pairings.now atoms.now) out.new) }
-    ensures coded { OnOk result (is_coded_filter atoms.now ≡ true) }
 {
     for atom in atoms {
         match put_and(out, pairings, atom) {
@@ -134,7 +127,6 @@ fn put_filter(out: &mut List<u8>, pairings: &[Pairing], atoms: &[Atom]) -> Resul
     requires form { list_all (λ a. is_test (length pairings.now) a.test) atoms.now ≡ true }
     ensures whole { OnOk result (out.new ≡ out.old ++ filter_text pairings.now atoms.now) }
     ensures partly { OnErr result (HasPartly out.old (filter_text pairings.now atoms.now) out.new) }
-    ensures coded { OnOk result (is_coded_filter atoms.now ≡ true) }
 {
     let Some((first, others)) = atoms.split_first() else {
         return Ok(());
@@ -156,7 +148,6 @@ fn put_kept(
         ++ (front.now ++ filter_text pairings.now atoms.now)) }
     ensures partly { OnErr result (HasPartly out.old
         (front.now ++ filter_text pairings.now atoms.now) out.new) }
-    ensures coded { OnOk result (is_coded_filter atoms.now ≡ true) }
 {
     put_bytes(out, front)?;
     put_filter(out, pairings, atoms)
@@ -176,7 +167,6 @@ fn put_prefer(
     ensures partly { OnErr result (HasPartly out.old
         ((codes "prefer " ++ number_text least) ++ 32
         ∷ filter_text pairings.now atoms.now) out.new) }
-    ensures coded { OnOk result (is_coded_filter atoms.now ≡ true) }
 {
     put_count(out, b"prefer ", least)?;
     put_kept(out, b" ", pairings, atoms)
@@ -215,7 +205,6 @@ fn put_wish(out: &mut List<u8>, base: &Base, wish: &Wish) -> Result<(), Memory>
     requires form { is_wish base.now.rules.horizon (length base.now.pairings) wish.now ≡ true }
     ensures whole { OnOk result (out.new ≡ out.old ++ wish_text base.now wish.now) }
     ensures partly { OnErr result (HasPartly out.old (wish_text base.now wish.now) out.new) }
-    ensures coded { OnOk result (is_coded_wish wish.now ≡ true) }
 {
     let pairings = base.pairings.as_slice();
     match wish {
@@ -235,7 +224,6 @@ fn put_behind(out: &mut List<u8>, base: &Base, wish: &Wish) -> Result<(), Memory
     requires form { is_wish base.now.rules.horizon (length base.now.pairings) wish.now ≡ true }
     ensures whole { OnOk result (out.new ≡ out.old ++ (32 ∷ wish_text base.now wish.now)) }
     ensures partly { OnErr result (HasPartly out.old (32 ∷ wish_text base.now wish.now) out.new) }
-    ensures coded { OnOk result (is_coded_wish wish.now ≡ true) }
 {
     put_bytes(out, b" ")?;
     put_wish(out, base, wish)
@@ -247,7 +235,6 @@ pub fn put_text(out: &mut List<u8>, base: &Base, bid: &Bid) -> Result<(), Memory
     requires form { is_wish base.now.rules.horizon (length base.now.pairings) bid.now.wish ≡ true }
     ensures whole { OnOk result (out.new ≡ out.old ++ bid_text base.now bid.now) }
     ensures partly { OnErr result (HasPartly out.old (bid_text base.now bid.now) out.new) }
-    ensures coded { OnOk result (is_coded_wish bid.now.wish ≡ true) }
 {
     put_number(out, bid.weight)?;
     put_behind(out, base, &bid.wish)

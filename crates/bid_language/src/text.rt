@@ -1,11 +1,10 @@
 //! Writing the bids of a problem.
-ghost use Rattle.std.specs.Prelude.{◌≡◌, ◌<◌, ◌≤◌, ◌++◌, ◌∷◌, [], true, length, All, IfOk, OnOk, OnErr, IsTrue, Some, slice_get};
-ghost use Rattle.std.specs.List.{list_all};
+ghost use Rattle.std.specs.Prelude.{◌≡◌, ◌<◌, ◌++◌, ◌∷◌, [], true, length, All, IfOk, OnOk, OnErr, Some, slice_get};
 ghost use Rattle.field_text.specs.Spelling.{HasPartly};
 ghost use Rattle.roster_model.specs.Scores.{bids_of};
 ghost use Rattle.roster_model.specs.Valid.{IsBid, is_wish};
 ghost use Rattle.bid_language.specs.Rereads.{IsAgain, IsBidText};
-ghost use Rattle.bid_language.specs.Spelling.{bid_text, text_of, bid_lines, member_text, member_lines, all_lines, bids_text, is_coded_wish, are_coded};
+ghost use Rattle.bid_language.specs.Spelling.{bid_text, text_of, bid_lines, member_text, member_lines, all_lines, bids_text};
 
 use crate::printing::put_text;
 use crate::writing::put_word;
@@ -29,17 +28,13 @@ fn bid_at(problem: &Problem, bid: BidRef) -> &Bid
 }
 
 /// Appends a bid as its weight and its wish, or a part of that from its begin where memory ends.
-/// `read_bids` reads a line of this text as the bid: what was put, and also what was not, as long
-/// as the
-/// stations in bids have their form, which their type keeps.
+/// `read_bids` reads a line of this text as the bid.
 pub fn put_bid(out: &mut List<u8>, problem: &Problem, bid: BidRef) -> Result<(), Memory>
     requires member { bid.member < length problem.now.base.members }
     requires bid { bid.bid < length (bids_of problem.now bid.member) }
     ensures whole { OnOk result (out.new ≡ out.old ++ text_of problem.now bid) }
     ensures partly { OnErr result (HasPartly out.old (text_of problem.now bid) out.new) }
-    ensures again { OnOk result (IsBidText problem.now bid (text_of problem.now bid)) }
-    ensures coded { IsTrue (are_coded problem.now.bids)
-        → IsBidText problem.now bid (text_of problem.now bid) }
+    ensures again { IsBidText problem.now bid (text_of problem.now bid) }
 {
     put_text(out, &problem.base, bid_at(problem, bid))
 }
@@ -48,7 +43,6 @@ pub fn put_bid(out: &mut List<u8>, problem: &Problem, bid: BidRef) -> Result<(),
 fn put_line(out: &mut List<u8>, base: &Base, bid: &Bid) -> Result<(), Memory>
     requires form { IsBid base.now.rules.horizon (length base.now.pairings) bid.now }
     ensures whole { OnOk result (out.new ≡ out.old ++ (bid_text base.now bid.now ++ 10 ∷ [])) }
-    ensures coded { OnOk result (is_coded_wish bid.now.wish ≡ true) }
 {
     put_text(out, base, bid)?;
     put_bytes(out, b"\n")
@@ -58,7 +52,6 @@ fn put_line(out: &mut List<u8>, base: &Base, bid: &Bid) -> Result<(), Memory>
 fn put_lines(out: &mut List<u8>, base: &Base, bids: &[Bid]) -> Result<(), Memory>
     requires forms { All (IsBid base.now.rules.horizon (length base.now.pairings)) bids.now }
     ensures whole { OnOk result (out.new ≡ out.old ++ bid_lines base.now bids.now) }
-    ensures coded { OnOk result (list_all (λ b. is_coded_wish b.wish) bids.now ≡ true) }
 {
     for bid in bids {
         put_line(out, base, bid)?;
@@ -79,7 +72,6 @@ fn put_some(out: &mut List<u8>, base: &Base, member: &Member, bids: &[Bid]) -> R
     requires forms { All (IsBid base.now.rules.horizon (length base.now.pairings)) bids.now }
     ensures whole { OnOk result (out.new ≡ out.old
         ++ ((member_text member.now ++ 10 ∷ []) ++ bid_lines base.now bids.now)) }
-    ensures coded { OnOk result (list_all (λ b. is_coded_wish b.wish) bids.now ≡ true) }
 {
     put_head(out, member)?;
     put_lines(out, base, bids)
@@ -89,7 +81,6 @@ fn put_some(out: &mut List<u8>, base: &Base, member: &Member, bids: &[Bid]) -> R
 fn put_member(out: &mut List<u8>, base: &Base, member: &Member, bids: &[Bid]) -> Result<(), Memory>
     requires forms { All (IsBid base.now.rules.horizon (length base.now.pairings)) bids.now }
     ensures whole { OnOk result (out.new ≡ out.old ++ member_lines base.now member.now bids.now) }
-    ensures coded { OnOk result (list_all (λ b. is_coded_wish b.wish) bids.now ≡ true) }
 {
     if bids.is_empty() {
         return Ok(());
@@ -107,7 +98,6 @@ fn put_members(
     requires same { length lists.now ≡ length members.now }
     requires forms { All (All (IsBid base.now.rules.horizon (length base.now.pairings))) lists.now }
     ensures whole { OnOk result (out.new ≡ out.old ++ all_lines base.now members.now lists.now) }
-    ensures coded { OnOk result (are_coded lists.now ≡ true) }
 {
     for m in 0..members.len() {
         put_member(out, base, &members[m], lists[m].as_slice())?;
@@ -118,7 +108,6 @@ fn put_members(
 /// Appends the lines of a problem's members.
 fn put_problem(out: &mut List<u8>, problem: &Problem) -> Result<(), Memory>
     ensures whole { OnOk result (out.new ≡ out.old ++ bids_text problem.now) }
-    ensures coded { OnOk result (are_coded problem.now.bids ≡ true) }
 {
     put_members(
         out,
@@ -128,14 +117,10 @@ fn put_problem(out: &mut List<u8>, problem: &Problem) -> Result<(), Memory>
     )
 }
 
-/// The text of the problem's bids, which `read_bids` reads as these bids: what was printed, and
-/// also
-/// what was not, as long as the stations in bids have their form, which their type keeps.
+/// The text of the problem's bids, which `read_bids` reads as these bids.
 pub fn print_bids(alloc: Global, problem: &Problem) -> Result<List<u8>, Memory>
     ensures whole { IfOk result (λ text. text ≡ bids_text problem.now) }
-    ensures again { OnOk result (IsAgain problem.now (bids_text problem.now)) }
-    ensures coded { IsTrue (are_coded problem.now.bids)
-        → IsAgain problem.now (bids_text problem.now) }
+    ensures again { IsAgain problem.now (bids_text problem.now) }
 {
     let mut out = List::new(alloc);
     put_problem(&mut out, problem)?;

@@ -13,7 +13,7 @@ use Rattle.std.proofs.lemmas.Str.Ascii.{IsAscii-cons, IsAscii-nil}
 use Rattle.jiff_core.specs.Calendar.{IsBetween}
 use Rattle.jiff_core.proofs.SignedLemmas.{signed_arith}
 use Rattle.duty_calendar.specs.Calendar.{IsOffset}
-use Rattle.duty_calendar.specs.Forms.{are_capitals, is_capital}
+use Rattle.duty_calendar.specs.Forms.{are_capitals, is_capital, is_station_code}
 use Rattle.field_text.proofs.Days.{pos-abs}
 use Rattle.toml_parser.specs.Lexical.{first}
 use Rattle.toml_writer.specs.Text.{key_text}
@@ -24,7 +24,7 @@ use Rattle.toml.specs.Text.{IsLinesText}
 use Rattle.toml.proofs.Turns.{document_some}
 use Rattle.toml.proofs.ReadLines.{run, AllPrinted, read_lines}
 use Rattle.rules_file.specs.Keys.{missing, unknown}
-use Rattle.rules_file.specs.Rules.{Values, rules_file, rules_in, base_in, seat_in, year_in, month_in, offset_in, days_off_in, is_station, between, sized, passed}
+use Rattle.rules_file.specs.Rules.{Values, rules_file, rules_in, base_in, seat_in, year_in, month_in, offset_in, days_off_in, between, sized, passed}
 use Rattle.duty_calendar.specs.Forms.{is_seat, is_seat_byte}
 use Rattle.rules_file.specs.Spelling.{text_line, number_line, rules_text}
 use Rattle.rules_file.proofs.Tables.{table_of-some}
@@ -33,7 +33,7 @@ use Rattle.rules_file.proofs.Values.{all_in, rules-known}
 
 -- values in their ranges
 pub record IsValues (v : Values) : Type 0 where
-  pub base : is_station v.base ≡ true
+  pub base : is_station_code v.base ≡ true
   pub seat : is_seat v.seat ≡ true
   pub year : IsBetween (pos 2000) (pos 2099) v.year
   pub month : IsInRange 1 12 v.month
@@ -192,7 +192,7 @@ sized-in (negsuc n) h =
 
 base-there : (v : Values) → IsValues v → base_in (table v) ≡ Some v.base
 unfolding base_in
-base-there v h = passed-true is_station v.base h.base
+base-there v h = passed-true is_station_code v.base h.base
 
 seat-there : (v : Values) → IsValues v → seat_in (table v) ≡ Some v.seat
 unfolding seat_in
@@ -286,7 +286,7 @@ pub pieces-are : (p1 p2 p3 p4 p5 p6 p7 p8 p9 p10 p11 p12 p13 b s : List ℕ) (y 
 pieces-are p1 p2 p3 p4 p5 p6 p7 p8 p9 p10 p11 p12 p13 b s y o m d e1 e2 e3 e4 e5 e6 e7 e8 e9 e10 e11 e12 e13 =
     rw (e1, e2, e3, e4, e5, e6, e7, e8, e9, e10, e11, e12, e13) (pieces-text b s y o m d)
 
-pub station-of : (text : List ℕ) → length text ≡ 3 → are_capitals text ≡ true → is_station text ≡ true
+pub station-of : (text : List ℕ) → length text ≡ 3 → are_capitals text ≡ true → is_station_code text ≡ true
 station-of text l h =
     let long : (length text == 3) ≡ true = grind (arith, nat_tests) in
     rw (long, h) refl

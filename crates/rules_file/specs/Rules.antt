@@ -1,7 +1,7 @@
 -- How a text reads as rules, and its first fault.
-use Rattle.std.specs.Prelude.{◌≡◌, ℕ, List, length, Bool, codes, nat_le, nat_lt, ℤ, pos, negsuc, ◌&&◌, ◌==◌, Option, Some, None, option_and_then, Result, Ok, Err, IfSome, if◌then◌else◌}
+use Rattle.std.specs.Prelude.{◌≡◌, ℕ, List, Bool, codes, nat_le, nat_lt, ℤ, pos, negsuc, ◌&&◌, Option, Some, None, option_and_then, Result, Ok, Err, IfSome, if◌then◌else◌}
 use Rattle.std.specs.Str.{is_utf8}
-use Rattle.duty_calendar.specs.Forms.{are_capitals, is_seat}
+use Rattle.duty_calendar.specs.Forms.{is_seat, is_station_code}
 use Rattle.duty_calendar.specs.declared.member.Rules.{Rules}
 use Rattle.field_text.specs.Steps.{◌>>=◌, or_fault}
 use Rattle.toml.specs.Data.{Members, get_member, as_integer, as_str}
@@ -40,10 +40,6 @@ whole_at key table = option_and_then as_integer (get_member key table)
 abbrev pub passed : (List ℕ → Bool) → List ℕ → Option (List ℕ)
 passed test text = if test text then Some text else None
 
--- a station has three capital letters
-abbrev pub is_station : List ℕ → Bool
-is_station text = (length text == 3) && are_capitals text
-
 -- a whole number from one to another, and one of at most a size
 abbrev pub between : ℕ → ℕ → ℤ → Option ℕ
 between low high (pos n) = if nat_le low n && nat_le n high then Some n else None
@@ -55,7 +51,7 @@ sized limit (negsuc n) = if nat_lt n limit then Some (negsuc n) else None
 
 -- the value of each key, where it has its kind and range
 unfoldable pub base_in : Members → Option (List ℕ)
-base_in table = option_and_then (passed is_station) (text_at (codes "base") table)
+base_in table = option_and_then (passed is_station_code) (text_at (codes "base") table)
 
 unfoldable pub seat_in : Members → Option (List ℕ)
 seat_in table = option_and_then (passed is_seat) (text_at (codes "seat") table)

@@ -6,14 +6,9 @@ use Rattle.bid_language.proofs.text.print_bids.Goals as goal
 pub returns-clause-again : goal.returns-clause-again
 returns-clause-again c =
     bids-again c.args.problem.now.base c.args.problem.now.bids c.args.problem.now.valid (days-again c.args.problem.now.base.rules.horizon)
-    (problem-spelt c.args.problem.now.base c.args.problem.now.bids c.args.problem.now.valid c.in_ok-put_problem.ensures.coded)
+    (problem-spelt c.args.problem.now.base c.args.problem.now.bids c.args.problem.now.valid)
 
-pub returns-clause-coded : goal.returns-clause-coded
-returns-clause-coded c = λ coded.
+pub returns-in_err-put_problem-clause-again : goal.returns-in_err-put_problem-clause-again
+returns-in_err-put_problem-clause-again c =
     bids-again c.args.problem.now.base c.args.problem.now.bids c.args.problem.now.valid (days-again c.args.problem.now.base.rules.horizon)
-    (problem-spelt c.args.problem.now.base c.args.problem.now.bids c.args.problem.now.valid coded)
-
-pub returns-in_err-put_problem-clause-coded : goal.returns-in_err-put_problem-clause-coded
-returns-in_err-put_problem-clause-coded c = λ coded.
-    bids-again c.args.problem.now.base c.args.problem.now.bids c.args.problem.now.valid (days-again c.args.problem.now.base.rules.horizon)
-    (problem-spelt c.args.problem.now.base c.args.problem.now.bids c.args.problem.now.valid coded)
+    (problem-spelt c.args.problem.now.base c.args.problem.now.bids c.args.problem.now.valid)

@@ -1,6 +1,6 @@
-use Rattle.std.proofs.lemmas.Result.{on_err_weaker, on_ok_weaker}
+use Rattle.std.proofs.lemmas.Result.{on_err_weaker}
 use Rattle.bid_language.specs.Spelling.{bid_text, text_of}
-use Rattle.bid_language.proofs.BidTextAgain.{text-again, text-coded}
+use Rattle.bid_language.proofs.BidTextAgain.{text-again}
 use Rattle.bid_language.proofs.DaysAgain.{days-again}
 use Rattle.bid_language.proofs.Written.{partly_same}
 use Rattle.bid_language.proofs.text.put_bid.Goals as goal
@@ -12,10 +12,4 @@ returns-clause-partly c =
     c.put_text.ensures.partly
 
 pub returns-clause-again : goal.returns-clause-again
-returns-clause-again c =
-    on_ok_weaker c.put_text.result
-    (λ h. text-again c.args.problem.now c.args.bid c.bid_at.result.now (days-again c.args.problem.now.base.rules.horizon) c.bid_at.ensures.there h)
-    c.put_text.ensures.coded
-
-pub returns-clause-coded : goal.returns-clause-coded
-returns-clause-coded c = λ coded. text-coded c.args.problem.now c.args.bid (days-again c.args.problem.now.base.rules.horizon) coded
+returns-clause-again c = text-again c.args.problem.now c.args.bid (days-again c.args.problem.now.base.rules.horizon)

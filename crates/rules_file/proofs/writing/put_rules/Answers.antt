@@ -5,14 +5,15 @@ use Rattle.std.proofs.lemmas.Int.{to_z-of_z}
 use Rattle.std.proofs.lemmas.Result.{on_ok_weaker, on_err_weaker}
 use Rattle.jiff_core.proofs.SignedLemmas.{signed_arith}
 use Rattle.field_text.specs.Spelling.{HasPartly}
-use Rattle.rules_file.specs.Rules.{values, is_station}
+use Rattle.duty_calendar.specs.Forms.{is_station_code}
+use Rattle.rules_file.specs.Rules.{values}
 use Rattle.rules_file.proofs.Again.{rules-again, pieces-are, station-of}
 use Rattle.rules_file.proofs.writing.put_rules.Goals as goal
 
 pub returns-clause-again : goal.returns-clause-again
 returns-clause-again c = λ h.
     let long : length c.bytes-base.result ≡ 3 = omega arith in
-    let base : is_station c.args.rules.now.base ≡ true = subst (λ (t : List ℕ). is_station t ≡ true) c.bytes-base.ensures.value (station-of c.bytes-base.result long c.bytes-base.ensures.form) in
+    let base : is_station_code c.args.rules.now.base ≡ true = subst (λ (t : List ℕ). is_station_code t ≡ true) c.bytes-base.ensures.value (station-of c.bytes-base.result long c.bytes-base.ensures.form) in
     rules-again (values c.args.rules.now) (record {
       base = base;
       seat = h.seat;
