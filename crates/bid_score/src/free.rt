@@ -10,7 +10,7 @@ ghost use Rattle.roster_model.specs.Timelines.{busy};
 
 use crate::fixed::fixed_of;
 use duty_calendar::{Event, Interval, Kind};
-use roster_model::{Problem, pairing_span};
+use roster_model::{Line, Problem, pairing_span};
 
 /// Whether the span has a minute of the days from the first to the last.
 fn is_touching(first: u32, last: u32, span: Interval) -> bool
@@ -79,7 +79,7 @@ pub fn is_free(problem: &Problem, member: u32, line: &[u32], first: u32, last: u
 
 /// How many days of the month are days off.
 #[tactic(auto, using(duty_calendar::proofs::Counting::counting))]
-pub fn days_off(problem: &Problem, member: u32, line: &[u32]) -> u32
+pub(crate) fn days_off_of(problem: &Problem, member: u32, line: &[u32]) -> u32
     requires member { member < length problem.now.base.members }
     requires known { All (λ p. p < length problem.now.base.pairings) line.now }
     ensures { result ≡ days_off problem.now member line.now }
@@ -91,4 +91,14 @@ pub fn days_off(problem: &Problem, member: u32, line: &[u32]) -> u32
         }
     }
     count
+}
+
+/// How many days of the month are days off: those that no pairing of the line touches, and nothing that is fixed but
+/// leave.
+pub fn days_off(problem: &Problem, member: u32, line: &Line) -> u32
+    requires member { member < length problem.now.base.members }
+    requires known { All (λ p. p < length problem.now.base.pairings) line.now }
+    ensures value { result ≡ days_off problem.now member line.now }
+{
+    days_off_of(problem, member, line.pairings())
 }

@@ -6,7 +6,7 @@ ghost use Rattle.roster_model.specs.Scores.{is_flown, is_granting, is_granted, b
 ghost use Rattle.roster_model.specs.Timelines.{credit_of};
 
 use crate::credits::credit_of;
-use crate::free::{days_off, is_free};
+use crate::free::{days_off_of, is_free};
 use roster_model::{Bid, Filter, Line, Problem, Wish, holds};
 
 /// Whether the line has the pairing.
@@ -54,7 +54,7 @@ fn grants(problem: &Problem, member: u32, line: &[u32], wish: &Wish) -> bool
         Wish::Off(first, last) => is_free(problem, member, line, *first, *last),
         Wish::CreditBelow(minutes) => credit_of(problem, member, line) < *minutes,
         Wish::CreditAbove(minutes) => *minutes < credit_of(problem, member, line),
-        Wish::DaysOff(days) => *days <= days_off(problem, member, line),
+        Wish::DaysOff(days) => *days <= days_off_of(problem, member, line),
     }
 }
 

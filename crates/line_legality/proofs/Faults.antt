@@ -1,13 +1,9 @@
 -- A breach as a fault of a line, and why a line with a fault is not legal.
-use Rattle.std.proofs.Common.{◌≡◌, ℕ, ◌+◌, ◌<◌, ◌≤◌, ◌∙◌, ap, not, true, List, length, refl, subst, inl, inr, arith}
+use Rattle.std.proofs.Common.{◌≡◌, ℕ, ◌<◌, ◌≤◌, not, true, List, length, refl, subst, inl, inr, arith}
 use Rattle.std.specs.Prelude.{count_by, ◌≢◌, IfErr, Result, Ok, Err}
 use Rattle.duty_calendar.specs.declared.event.Event.{Event}
 use Rattle.duty_calendar.specs.Calendar.{end_of}
-use Rattle.duty_calendar.specs.Minutes.{is_in, is_touching, count_between, is_flight, is_flying_minute, is_period_minute}
-use Rattle.duty_calendar.specs.Calendar.{month_days}
-use Rattle.duty_calendar.specs.declared.interval.Interval.{Interval}
-use Rattle.std.specs.List.{list_any}
-use Rattle.roster_model.specs.Scores.{days_off}
+use Rattle.duty_calendar.specs.Minutes.{is_in, is_flight, is_flying_minute, is_period_minute}
 use Rattle.duty_calendar.specs.Limits.{IsRested, HadDaysFree, AtReports, KeepsPart117}
 use Rattle.part117_limits.specs.declared.broken.Breach.{Breach}
 use Rattle.part117_limits.specs.declared.broken.Breach.TheVariants as breach
@@ -15,7 +11,7 @@ use Rattle.part117_limits.specs.Reports.{AtDue}
 use Rattle.part117_limits.specs.Breaches.{KeepsLimits, IsFirstBreach}
 use Rattle.part117_limits.proofs.Breaks.{over_breaks, year_breaks}
 use Rattle.roster_model.specs.declared.problem.Problem.{Problem}
-use Rattle.roster_model.specs.Timelines.{history_of, coming_events, events_of, occupied, busy}
+use Rattle.roster_model.specs.Timelines.{history_of, coming_events, events_of, occupied}
 use Rattle.roster_model.specs.Legality.{IsLegal}
 use Rattle.line_legality.specs.declared.illegal.Illegal.{Illegal}
 use Rattle.line_legality.specs.declared.illegal.Illegal.TheVariants.{NoMemory, Overlap, Rest, Free30, Flight672, Duty168, Duty672, Flight365, Credit, DaysOff}
@@ -104,16 +100,6 @@ fault_breaks problem member line (Flight365 place) h known legal =
 fault_breaks problem member line (Credit total) h known legal =
     elim h.8 [ inl low ↦ omega (arith, h.7, legal.least_credit) | inr high ↦ omega (arith, h.7, legal.most_credit) ]
 fault_breaks problem member line (DaysOff count) h known legal = omega (arith, h.8, h.9, legal.enough_days_off)
-
--- the days off, from what was counted
-pub days_same : (problem : Problem) (member : ℕ) (line : List ℕ) (work : List Interval) (days off : ℕ)
-    → work ≡ busy problem member line → days ≡ month_days problem.base.rules.horizon
-    → off ≡ count_between (λ d. not (list_any (λ s. is_touching s d) work)) 365 (365 + days)
-    → off ≡ days_off problem member line
-days_same problem member line work days off same length count =
-    count
-    ∙ ap (λ (w : List Interval). count_between (λ d. not (list_any (λ s. is_touching s d) w)) 365 (365 + days)) same
-    ∙ ap (λ (n : ℕ). count_between (λ d. not (list_any (λ s. is_touching s d) (busy problem member line))) 365 (365 + n)) length
 
 pub faults_break : {A : Type 0} (problem : Problem) (member : ℕ) (line : List ℕ) (found : Result A Illegal)
     → IfErr found (IsFirstFault problem member line)

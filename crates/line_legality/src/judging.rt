@@ -1,18 +1,18 @@
 //! Whether a line is legal.
-ghost use Rattle.std.specs.Prelude.{◌≡◌, ◌≢◌, ◌<◌, All, OnOk, IfErr, length};
+ghost use Rattle.std.specs.Prelude.{◌≡◌, ◌≢◌, ◌<◌, true, All, OnOk, IfErr, length};
 ghost use Rattle.std.specs.List.Sorted.{IsPermutation, IsNonDecreasingBy};
-ghost use Rattle.roster_model.specs.Timelines.{events_of, occupied, busy};
+ghost use Rattle.roster_model.specs.Ascending.{is_ascending};
+ghost use Rattle.roster_model.specs.Timelines.{events_of, occupied};
 ghost use Rattle.roster_model.specs.Legality.{IsLegal};
 ghost use Rattle.line_legality.specs.declared.illegal.Illegal.TheVariants.{NoMemory};
 ghost use Rattle.line_legality.specs.Faults.{illegal_of, IsFirstFault};
 
-use crate::credit::credit_of;
-use crate::free_days::days_off;
 use crate::illegal::Illegal;
 use crate::limits::breach_of;
 use crate::overlap::first_overlap;
 use crate::parts::{high_of, low_of};
-use crate::spans::{busy, occupied};
+use crate::spans::occupied;
+use bid_score::{credit, days_off};
 use duty_calendar::{Event, Interval};
 use part117_limits::Breach;
 use roster_model::{Line, Problem, timeline};
@@ -37,13 +37,12 @@ fn judged(
     member: u32,
     line: &Line,
     spans: &[Interval],
-    work: &[Interval],
     events: &[Event],
 ) -> Result<(), Illegal>
     requires member_in_range { member < length problem.now.base.members }
     requires in_range { All (λ p. p < length problem.now.base.pairings) line.now }
+    requires ascending { is_ascending line.now ≡ true }
     requires spans { spans.now ≡ occupied problem.now member line.now }
-    requires work { work.now ≡ busy problem.now member line.now }
     requires moved { IsPermutation (events_of problem.now member line.now) events.now }
     requires sorted { IsNonDecreasingBy (λ e. e.report) events.now }
     ensures ok { OnOk result (IsLegal problem.now member line.now) }
@@ -55,11 +54,11 @@ fn judged(
     if let Some(breach) = breach_of(problem, member, line, events) {
         return Err(illegal_of(breach));
     }
-    let credit = credit_of(problem, member, line);
-    if credit < low_of(problem, member) || credit > high_of(problem, member) {
-        return Err(Illegal::Credit(credit));
+    let total = credit(problem, member, line);
+    if total < low_of(problem, member) || total > high_of(problem, member) {
+        return Err(Illegal::Credit(total));
     }
-    let off = days_off(work, problem.base.rules.horizon.days());
+    let off = days_off(problem, member, line);
     if off < problem.base.rules.days_off {
         return Err(Illegal::DaysOff(off));
     }
@@ -76,7 +75,6 @@ pub fn legal(alloc: Global, problem: &Problem, member: u32, line: &Line) -> Resu
     ensures illegal { IfErr result (λ why. why ≢ NoMemory → ¬ (IsLegal problem.now member line.now)) }
 {
     let spans = occupied(alloc, problem, member, line)?;
-    let work = busy(alloc, problem, member, line)?;
     let events = timeline(alloc, problem, member, line)?;
-    judged(problem, member, line, &spans, &work, events.as_slice())
+    judged(problem, member, line, &spans, events.as_slice())
 }

@@ -1,8 +1,6 @@
 //! Legal lines and complete rosters, and the first rule that fails.
 #![tactic(auto)]
 
-mod credit;
-mod free_days;
 mod illegal;
 mod judging;
 mod limits;

@@ -1,11 +1,11 @@
 //! The spans of minutes that fixed events and pairings take.
-ghost use Rattle.std.specs.Prelude.{◌≡◌, ◌<◌, ◌≤◌, ◌++◌, All, IfOk, OnOk, filter, length, map};
-ghost use Rattle.duty_calendar.specs.Minutes.{is_duty};
+ghost use Rattle.std.specs.Prelude.{◌≡◌, ◌<◌, ◌≤◌, ◌++◌, true, All, IfOk, OnOk, length, map};
+ghost use Rattle.roster_model.specs.Ascending.{is_ascending};
 ghost use Rattle.roster_model.specs.Spans.{event_span, pairing_span};
-ghost use Rattle.roster_model.specs.Timelines.{pairings_of, occupied, busy};
+ghost use Rattle.roster_model.specs.Timelines.{pairings_of, occupied};
 
 use crate::parts::{fixed_of, pairing_at};
-use duty_calendar::{Event, Interval, Kind, Memory, Pairing};
+use duty_calendar::{Event, Interval, Memory, Pairing};
 use roster_model::{Line, Problem};
 use std::alloc::Global;
 
@@ -29,12 +29,6 @@ fn pairing_span(pairing: &Pairing) -> Interval
     }
 }
 
-fn is_duty(event: &Event) -> bool
-    ensures duty { result ≡ is_duty event.now.kind }
-{
-    event.kind != Kind::Leave
-}
-
 /// Appends the spans of events.
 fn push_events(out: &mut Vec<Interval>, events: &[Event]) -> Result<(), Memory>
     ensures more { OnOk result (out.new.items ≡ out.old.items ++ map event_span events.now) }
@@ -45,22 +39,11 @@ fn push_events(out: &mut Vec<Interval>, events: &[Event]) -> Result<(), Memory>
     Ok(())
 }
 
-/// Appends the spans of the events that are duty.
-fn push_duties(out: &mut Vec<Interval>, events: &[Event]) -> Result<(), Memory>
-    ensures more { OnOk result (out.new.items ≡ out.old.items ++ map event_span (filter (λ e. is_duty e.kind) events.now)) }
-{
-    for event in events {
-        if is_duty(event) {
-            out.push(event_span(event))?;
-        }
-    }
-    Ok(())
-}
-
 /// Appends the spans of the pairings of a line.
 fn push_line(out: &mut Vec<Interval>, problem: &Problem, line: &Line) -> Result<(), Memory>
     requires in_range { All (λ p. p < length problem.now.base.pairings) line.now }
     ensures more { OnOk result (out.new.items ≡ out.old.items ++ map pairing_span (pairings_of problem.now line.now)) }
+    ensures ascending { is_ascending line.now ≡ true }
 {
     for number in line.pairings() {
         let pairing = pairing_at(problem, *number);
@@ -79,26 +62,10 @@ pub fn occupied(
     requires member_in_range { member < length problem.now.base.members }
     requires in_range { All (λ p. p < length problem.now.base.pairings) line.now }
     ensures spans { IfOk result (λ spans. spans.items ≡ occupied problem.now member line.now) }
+    ensures ascending { OnOk result (is_ascending line.now ≡ true) }
 {
     let mut spans = Vec::new(alloc);
     push_events(&mut spans, fixed_of(problem, member))?;
-    push_line(&mut spans, problem, line)?;
-    Ok(spans)
-}
-
-/// What makes a day no day off: the same but for leave.
-pub fn busy(
-    alloc: Global,
-    problem: &Problem,
-    member: u32,
-    line: &Line,
-) -> Result<Vec<Interval>, Memory>
-    requires member_in_range { member < length problem.now.base.members }
-    requires in_range { All (λ p. p < length problem.now.base.pairings) line.now }
-    ensures spans { IfOk result (λ spans. spans.items ≡ busy problem.now member line.now) }
-{
-    let mut spans = Vec::new(alloc);
-    push_duties(&mut spans, fixed_of(problem, member))?;
     push_line(&mut spans, problem, line)?;
     Ok(spans)
 }

@@ -1,10 +1,10 @@
 use Rattle.std.proofs.Common.{◌<◌, sym, subst, inl, inr, arith, All}
 use Rattle.duty_calendar.specs.Limits.{AreDisjoint}
 use Rattle.line_legality.specs.Faults.{IsFirstFault}
-use Rattle.line_legality.proofs.Faults.{fault_of, limits_kept, days_same}
+use Rattle.line_legality.proofs.Faults.{fault_of, limits_kept}
 use Rattle.line_legality.proofs.Kept.{spans_last}
 use Rattle.line_legality.proofs.judging.judged.Goals as goal
-use Rattle.line_legality.proofs.judging.judged.Goals.{then-credit-low_of-via-then-credit-low_of, then-credit-low_of-via-else-credit-low_of+then-credit-high_of}
+use Rattle.line_legality.proofs.judging.judged.Goals.{then-total-low_of-via-then-total-low_of, then-total-low_of-via-else-total-low_of+then-total-high_of}
 
 pub first_overlap-requires : goal.first_overlap-requires
 first_overlap-requires c = record {
@@ -20,8 +20,8 @@ returns-in-Some-breach_of-clause-fault c =
     (fault_of c.args.problem.now c.args.member c.args.line.now c.in-Some-breach_of.breach c.requires.member_in_range
     (subst AreDisjoint c.requires.spans c.in_default.ensures.least) c.in-Some-breach_of.ensures.first)
 
-pub returns-then-credit-low_of-clause-fault : goal.returns-then-credit-low_of-clause-fault
-returns-then-credit-low_of-clause-fault c =
+pub returns-then-total-low_of-clause-fault : goal.returns-then-total-low_of-clause-fault
+returns-then-total-low_of-clause-fault c =
     let limits = limits_kept c.args.problem.now c.args.member c.args.line.now c.requires.member_in_range
     (subst AreDisjoint c.requires.spans c.in_default.ensures.least) c.in_default-breach_of.ensures.first in (
       limits.apart,
@@ -31,10 +31,10 @@ returns-then-credit-low_of-clause-fault c =
       limits.duty_168,
       limits.duty_672,
       limits.flight_365,
-      c.credit_of-credit.ensures.credit,
-      elim c.then-credit-low_of.branch [
-        | then-credit-low_of-via-then-credit-low_of w ↦ inl (omega (arith, w.if-credit-low_of.true, c.low_of.ensures.low))
-        | then-credit-low_of-via-else-credit-low_of+then-credit-high_of w ↦ inr (omega (arith, w.if-credit-high_of.true, w.high_of.ensures.high))
+      c.credit-total.ensures.value,
+      elim c.then-total-low_of.branch [
+        | then-total-low_of-via-then-total-low_of w ↦ inl (omega (arith, w.if-total-low_of.true, c.low_of.ensures.low))
+        | then-total-low_of-via-else-total-low_of+then-total-high_of w ↦ inr (omega (arith, w.if-total-high_of.true, w.high_of.ensures.high))
       ],
     )
 
@@ -50,22 +50,21 @@ returns-then-off-problem-clause-fault c =
       limits.duty_672,
       limits.flight_365,
       (
-        omega (arith, c.credit_of-credit.ensures.credit, c.if-credit-low_of.false, c.low_of.ensures.low),
-        omega (arith, c.credit_of-credit.ensures.credit, c.if-credit-high_of.false, c.high_of.ensures.high),
+        omega (arith, c.credit-total.ensures.value, c.if-total-low_of.false, c.low_of.ensures.low),
+        omega (arith, c.credit-total.ensures.value, c.if-total-high_of.false, c.high_of.ensures.high),
       ),
-      days_same c.args.problem.now c.args.member c.args.line.now c.args.work.now c.days.result c.days_off-off.result c.requires.work c.days.ensures.value c.days_off-off.ensures.count,
+      c.days_off-off.ensures.value,
       c.if-off-problem.true,
     )
 
 pub returns-clause-ok : goal.returns-clause-ok
 returns-clause-ok c =
-    let off = days_same c.args.problem.now c.args.member c.args.line.now c.args.work.now c.days.result c.days_off-off.result c.requires.work c.days.ensures.value c.days_off-off.ensures.count in
     record {
-      ascending = c.credit_of-credit.ensures.ascending;
+      ascending = c.requires.ascending;
       in_range = c.requires.in_range;
       limits = limits_kept c.args.problem.now c.args.member c.args.line.now c.requires.member_in_range
           (subst AreDisjoint c.requires.spans c.in_default.ensures.least) c.in_default-breach_of.ensures.first;
-      least_credit = omega (arith, c.credit_of-credit.ensures.credit, c.if-credit-low_of.false, c.low_of.ensures.low);
-      most_credit = omega (arith, c.credit_of-credit.ensures.credit, c.if-credit-high_of.false, c.high_of.ensures.high);
-      enough_days_off = omega (arith, off, c.if-off-problem.false);
+      least_credit = omega (arith, c.credit-total.ensures.value, c.if-total-low_of.false, c.low_of.ensures.low);
+      most_credit = omega (arith, c.credit-total.ensures.value, c.if-total-high_of.false, c.high_of.ensures.high);
+      enough_days_off = omega (arith, c.days_off-off.ensures.value, c.if-off-problem.false);
     }

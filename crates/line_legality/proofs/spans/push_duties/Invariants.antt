@@ -1,8 +1,0 @@
-use Rattle.std.proofs.Common.{◌≡◌, ◌++◌, map, take, filter}
-use Rattle.duty_calendar.specs.Minutes.{is_duty}
-use Rattle.roster_model.specs.Spans.{event_span}
-use Rattle.line_legality.proofs.spans.push_duties.Given as goal
-
-abbrev pub invariant-loop-event : goal.invariant-loop-event
-invariant-loop-event l =
-    l.out.items ≡ l.initial.out.items ++ map event_span (filter (λ e. is_duty e.kind) (take l.event-index l.events))
