@@ -1,4 +1,4 @@
--- The arcs that lead to a place, and how many there are.
+-- The arcs that lead to a place.
 use Rattle.std.proofs.Common.{◌≡◌, ◌≢◌, ℕ, ◌+◌, ◌*◌, ◌<◌, ◌≤◌, List, [], ◌∷◌, ◌++◌, Bool, true, false, cond, Some, inl, inr, refl, sym, ◌∙◌, ap, subst, arith, length, length-append, take, get_or, eq-eqb, set, map, Vec}
 use Rattle.std.specs.declared.alloc.Global.{Global}
 use Rattle.std.specs.Prelude.{Contains, slice_get, All, count_by, ◌==◌, nat_lt, option_map}
@@ -15,45 +15,28 @@ use Rattle.label_setter.specs.declared.graph.Arc.{Arc}
 use Rattle.label_setter.specs.Graphs.{FitsPlaces, IsGraph}
 use Rattle.label_setter.specs.Arrivals.{ArrivesAt, Arriving}
 
-test_false : (a b : ℕ) → a ≢ b → (a == b) ≡ false
-test_false a b h = grind (arith, nat_tests)
-
-abbrev tally : {X : Type 0} → (X → Bool) → List X → ℕ
-tally p [] = 0
-tally p (x ∷ xs) = cond (p x) (1 + tally p xs) (tally p xs)
-
-tally_is : {X : Type 0} (p : X → Bool) (xs : List X) → tally p xs ≡ count_by p xs
-tally_is p xs = is_count_by (tally p) p refl (λ y ys. refl) xs
-
-tests_next : (t p a b c : ℕ) → a ≡ b + c → cond (nat_lt t (p + 1)) (1 + a) a ≡ cond (nat_lt t p) (1 + b) b + cond (t == p) (1 + c) c
-tests_next t p a b c e = grind (arith, nat_tests)
-
 pub record Listed {S : Type 0} (arcs : List (Arc S)) (place i : ℕ) (numbers : List ℕ) : Type 0 where
   pub listed : (number : ℕ) (arc : Arc S) → number < i → slice_get arcs number ≡ Some arc → arc.to ≡ place → Contains numbers number
   pub right : All (ArrivesAt arcs place) numbers
-  pub count : length numbers ≡ count_by (λ arc. arc.to == place) (take i arcs)
 
 module _ {S : Type 0} (arcs : List (Arc S)) (place : ℕ) where
   pub Listed-start : Listed arcs place 0 []
-  Listed-start = record { listed = λ number arc l is to. absurd (omega arith); right = All-nil (ArrivesAt arcs place); count = refl }
+  Listed-start = record { listed = λ number arc l is to. absurd (omega arith); right = All-nil (ArrivesAt arcs place) }
 
   pub Listed-yes : (i : ℕ) (numbers : List ℕ) (arc : Arc S) → i < length arcs → arc ≡ get_or arcs i arc → arc.to ≡ place → Listed arcs place i numbers → Listed arcs place (i + 1) (numbers ++ i ∷ [])
   Listed-yes i numbers arc within read to so_far =
       let is : slice_get arcs i ≡ Some arc = slice_get_read arcs (length arcs) i arc refl within read in
-      let passes : ((get_or arcs i arc).to == place) ≡ true = subst (λ (a : Arc S). (a.to == place) ≡ true) read (eq-eqb arc.to place to) in
       record {
         listed = λ number other l other_is other_to. elim (below_or_at number i l) [
           | inl earlier ↦ Contains-append_left numbers (i ∷ []) number (so_far.listed number other earlier other_is other_to)
           | inr now ↦ subst (λ n. Contains (numbers ++ i ∷ []) n) (sym now) (Contains-push numbers i)
         ];
         right = All-push (ArrivesAt arcs place) numbers i so_far.right (record { arc = arc; is = is; to = to });
-        count = simp length-append (ap (λ n. n + 1) so_far.count ∙ sym (count_by_more_yes (λ (a : Arc S). a.to == place) arcs i arc within passes));
       }
 
   pub Listed-no : (i : ℕ) (numbers : List ℕ) (arc : Arc S) → i < length arcs → arc ≡ get_or arcs i arc → arc.to ≢ place → Listed arcs place i numbers → Listed arcs place (i + 1) numbers
   Listed-no i numbers arc within read other_place so_far =
       let is : slice_get arcs i ≡ Some arc = slice_get_read arcs (length arcs) i arc refl within read in
-      let fails : ((get_or arcs i arc).to == place) ≡ false = subst (λ (a : Arc S). (a.to == place) ≡ false) read (test_false arc.to place other_place) in
       record {
         listed = λ number other l other_is other_to. elim (below_or_at number i l) [
           | inl earlier ↦ so_far.listed number other earlier other_is other_to
@@ -62,28 +45,13 @@ module _ {S : Type 0} (arcs : List (Arc S)) (place : ℕ) where
               absurd (other_place (ap (λ (a : Arc S). a.to) (sym same) ∙ other_to)))
         ];
         right = so_far.right;
-        count = so_far.count ∙ sym (count_by_more_no (λ (a : Arc S). a.to == place) arcs i arc within fails);
       }
 
   pub Listed-all : (numbers : List ℕ) → Listed arcs place (length arcs) numbers → Arriving arcs place numbers
   Listed-all numbers all = record {
     listed = λ number arc is to. all.listed number arc (slice_get_within arcs number arc is) is to;
     right = all.right;
-    count = all.count ∙ ap (count_by (λ (arc : Arc S). arc.to == place)) (take-length arcs);
   }
-
-  tally_next : (xs : List (Arc S)) → tally (λ arc. nat_lt arc.to (place + 1)) xs ≡ tally (λ arc. nat_lt arc.to place) xs + tally (λ arc. arc.to == place) xs
-  tally_next [] = omega arith
-  tally_next (x ∷ xs) = tests_next x.to place _ _ _ (tally_next xs)
-
-  -- the arcs below the next place
-  pub count_next : (xs : List (Arc S)) → count_by (λ arc. nat_lt arc.to (place + 1)) xs ≡ count_by (λ arc. nat_lt arc.to place) xs + count_by (λ arc. arc.to == place) xs
-  count_next xs =
-      let all = tally_is (λ (arc : Arc S). nat_lt arc.to (place + 1)) xs in
-      let earlier = tally_is (λ (arc : Arc S). nat_lt arc.to place) xs in
-      let here = tally_is (λ (arc : Arc S). arc.to == place) xs in
-      let sum = tally_next xs in
-      omega arith
 
 list_there : (lists : List (Vec ℕ Global)) (place : ℕ) (list : Vec ℕ Global) → place < length lists → list ≡ get_or lists place list → slice_get (map (λ l. l.items) lists) place ≡ Some list.items
 list_there lists place list within read =
