@@ -15,7 +15,7 @@ use Rattle.label_lattice.specs.Laws.{ResourceLaws}
 use Rattle.label_setter.specs.declared.graph.Arc.{Arc}
 use Rattle.label_setter.specs.Graphs.{FitsPlaces, IsGraph}
 use Rattle.label_setter.specs.Chains.{GraphOf, IsFeasible, Leads, Reached, Takes, source}
-use Rattle.label_setter.specs.Rests.{IsRest}
+use Rattle.chain_search.specs.Bounds.{IsBound}
 use Rattle.chain_search.specs.declared.marks.Mark.{Mark}
 use Rattle.chain_search.specs.declared.turns.Label.{Label}
 use Rattle.chain_search.specs.declared.turns.Open.{Open}
@@ -126,7 +126,7 @@ module _ {R S E : Type 0} (extend : R → S → Option R) (done : R → E → Bo
   ]
 
   -- the arc is not worth going by
-  pub spreading_skip : (label : Label R) (old waiting : List (Open R)) (best : Option (Open R)) (numbers : List ℕ) (count number : ℕ) (arc : Arc S) (rest : ℕ → R → ℤ) → IsRest extend done graph rest
+  pub spreading_skip : (label : Label R) (old waiting : List (Open R)) (best : Option (Open R)) (numbers : List ℕ) (count number : ℕ) (arc : Arc S) (rest : ℕ → R → ℤ) → IsBound extend done graph rest
       → slice_get numbers count ≡ Some number → slice_get graph.arcs number ≡ Some arc → Enters extend rest over label number arc None
       → Spreading label old waiting best numbers count → Spreading label old waiting best numbers (count + 1)
   spreading_skip label old waiting best numbers count number arc rest rests at is enters so_far = record {

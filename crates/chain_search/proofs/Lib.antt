@@ -7,3 +7,4 @@ pub mod BitLoops
 pub mod BitChoice
 pub mod Marked
 pub mod TableRows
+pub mod LastingBits

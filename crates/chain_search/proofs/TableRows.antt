@@ -11,8 +11,8 @@ use Rattle.std.proofs.lemmas.List.Elements.{All-contains}
 use Rattle.std.proofs.Math.Nat.{mul-le-mul_right}
 use Rattle.label_setter.specs.declared.graph.Arc.{Arc}
 use Rattle.label_setter.specs.Graphs.{FitsPlaces, IsGraph}
-use Rattle.label_setter.specs.Chains.{GraphOf}
-use Rattle.label_setter.specs.Rests.{IsRest}
+use Rattle.label_setter.specs.Chains.{GraphOf, Leads, Reached}
+use Rattle.chain_search.specs.Bounds.{IsBound}
 use Rattle.chain_search.specs.Leavings.{Leaving}
 use Rattle.chain_search.specs.Rows.{ComesBack, GoesBack, IsBack, IsBetween, IsLowOrBack, RaisedBy}
 use Rattle.chain_search.specs.SeenChains.{IsSeen, IsSeenOrLow, LeadsDown}
@@ -304,32 +304,49 @@ all_read p xs k x all is =
     let passes = AllPass-from_list_all p xs all in
     All-contains (λ y. p y ≡ true) xs x passes (contains_read xs k x is)
 
-sum_of : (a g x y most : ℤ) → x ≡ a +ℤ g → (y +ℤ g) ≤ℤ most → (x +ℤ y) ≤ℤ (a +ℤ most)
-sum_of a g x y most e h = omega (arith, ints)
+-- what is gained from the next label on is gained from this one on
+gain_back : (gain a g x y most : ℤ) → gain ≤ℤ (x +ℤ y) → x ≡ a +ℤ g → (y +ℤ g) ≤ℤ most → gain ≤ℤ (a +ℤ most)
+gain_back gain a g x y most p e h = omega (arith, ints)
 
-module _ {R S E : Type 0} (extend : R → S → Option R) (done : R → E → Bool) (graph : GraphOf R S E) (count : ℕ) (shows : R → ℕ) (moves : S → ℕ → Option ℕ) (ends : ℕ → Bool) (fits_step : S → Bool) (fits_end : E → Bool)
-    (laws : CoarseLaws extend done count shows moves ends fits_step fits_end) (follow : follows fits_step fits_end graph ≡ true) where
+gain_here : (gain a rest : ℤ) → a ≡ gain → pos 0 ≤ℤ rest → gain ≤ℤ (a +ℤ rest)
+gain_here gain a rest e h = omega (arith, ints)
+
+module _ {R S E : Type 0} (extend : R → S → Option R) (done : R → E → Bool) (graph : GraphOf R S E) (count : ℕ) (shows : R → ℕ) (sees : R → ℕ → Bool) (moves : S → ℕ → Option ℕ) (ends : ℕ → Bool) (fits_step : S → Bool) (fits_end : E → Bool)
+    (laws : CoarseLaws extend done count shows sees moves ends fits_step fits_end) (follow : follows fits_step fits_end graph ≡ true) where
   pub fits_arc : (number : ℕ) (arc : Arc S) → slice_get graph.arcs number ≡ Some arc → fits_step arc.step ≡ true
   fits_arc number arc is = all_read (λ (a : Arc S). fits_step a.step) graph.arcs number arc (and_parts (fits_end graph.end) (list_all (λ (a : Arc S). fits_step a.step) graph.arcs) follow).1 is
 
-  pub rest_of_table : (table : List ℤ) (back sink : ℕ) → sink + 1 ≡ graph.places → graph.places ≤ back → Filled moves ends count graph.places graph.arcs table back → IsRest extend done graph (λ place resource. get_or table ((sink - place) * count + shows resource) (pos 0))
-  rest_of_table table back sink last all filled = record {
-    along = λ a b number takes.
+  module _ (table : List ℤ) (back sink : ℕ) (last_is : sink + 1 ≡ graph.places) (all : graph.places ≤ back) (filled : Filled moves ends count graph.places graph.arcs table back) where
+    -- from any state in which the label is seen
+    seen_bound : (label : Reached R) (chain : List ℕ) (gain : ℤ) (last : R) (state : ℕ) → state < count → sees label.resource state ≡ true
+        → Leads extend graph.arcs label chain (record { place = graph.places - 1; gain = gain; resource = last }) → done last graph.end ≡ true
+        → gain ≤ℤ (label.gain +ℤ get_or table ((sink - label.place) * count + state) (pos 0))
+    seen_bound label [] gain last state less seen leads is_done =
+        let place : label.place ≡ graph.places - 1 = ap (λ (r : Reached R). r.place) leads in
+        let none : sink - label.place ≡ 0 = omega (arith, last_is, place) in
+        let first : state ≡ (sink - label.place) * count + state = sym (ap (λ n. n * count + state) none ∙ omega arith) in
+        let there : sees last state ≡ true = subst (λ (r : Reached R). sees r.resource state ≡ true) leads seen in
+        let may = laws.final last graph.end state (and_parts (fits_end graph.end) (list_all (λ (a : Arc S). fits_step a.step) graph.arcs) follow).0 there is_done in
+        gain_here gain label.gain (get_or table ((sink - label.place) * count + state) (pos 0)) (ap (λ (r : Reached R). r.gain) leads) (subst (λ n. pos 0 ≤ℤ get_or table n (pos 0)) first (filled.at_sink state less may))
+    seen_bound label (number ∷ chain) gain last state less seen leads is_done =
+        let to = leads.0 in
+        let takes = leads.1 in
         let arc = takes.arc in
-        let on = filled.on number arc takes.is (omega (arith, all)) (shows a.resource) (shows b.resource) (laws.shown a.resource) (laws.along a.resource b.resource arc.step (fits_arc number arc takes.is) takes.extends) in
-        let sink_is : graph.places - 1 ≡ sink = omega (arith, last) in
-        let there : get_or table ((sink - b.place) * count + shows b.resource) (pos 0) ≡ get_or table ((graph.places - 1 - arc.to) * count + shows b.resource) (pos 0) =
-        ap (λ n. get_or table (n * count + shows b.resource) (pos 0)) (ap (λ n. n - b.place) (sym sink_is) ∙ ap (λ n. graph.places - 1 - n) (sym takes.to)) in
-        let here : get_or table ((sink - a.place) * count + shows a.resource) (pos 0) ≡ get_or table ((graph.places - 1 - arc.from) * count + shows a.resource) (pos 0) =
-        ap (λ n. get_or table (n * count + shows a.resource) (pos 0)) (ap (λ n. n - a.place) (sym sink_is) ∙ ap (λ n. graph.places - 1 - n) (sym takes.from)) in
-        subst (λ z. (b.gain +ℤ z) ≤ℤ (a.gain +ℤ get_or table ((sink - a.place) * count + shows a.resource) (pos 0))) (sym there)
-        (subst (λ z. (b.gain +ℤ get_or table ((graph.places - 1 - arc.to) * count + shows b.resource) (pos 0)) ≤ℤ (a.gain +ℤ z)) (sym here)
-        (sum_of a.gain arc.gain b.gain (get_or table ((graph.places - 1 - arc.to) * count + shows b.resource) (pos 0)) (get_or table ((graph.places - 1 - arc.from) * count + shows a.resource) (pos 0)) takes.gain on));
-    ends = λ end is_done.
-        let first : (sink - (graph.places - 1)) * count + shows end ≡ shows end = (let none : sink - (graph.places - 1) ≡ 0 = omega (arith, last) in ap (λ n. n * count + shows end) none ∙ omega arith) in
-        subst (λ n. pos 0 ≤ℤ get_or table n (pos 0)) (sym first)
-        (filled.at_sink (shows end) (laws.shown end) (laws.final end graph.end (and_parts (fits_end graph.end) (list_all (λ (a : Arc S). fits_step a.step) graph.arcs) follow).0 is_done));
-  }
+        let goes = laws.along label.resource to.resource arc.step state (fits_arc number arc takes.is) seen takes.extends in
+        let small = laws.stays arc.step state goes.next less goes.is in
+        let on = filled.on number arc takes.is (omega (arith, all)) state goes.next less goes.is in
+        let rest = seen_bound to chain gain last goes.next small goes.passes leads.2 is_done in
+        let sink_is : graph.places - 1 ≡ sink = omega (arith, last_is) in
+        let there : get_or table ((graph.places - 1 - arc.to) * count + goes.next) (pos 0) ≡ get_or table ((sink - to.place) * count + goes.next) (pos 0) =
+        ap (λ n. get_or table (n * count + goes.next) (pos 0)) (ap (λ n. n - arc.to) sink_is ∙ ap (λ n. sink - n) takes.to) in
+        let here : get_or table ((graph.places - 1 - arc.from) * count + state) (pos 0) ≡ get_or table ((sink - label.place) * count + state) (pos 0) =
+        ap (λ n. get_or table (n * count + state) (pos 0)) (ap (λ n. n - arc.from) sink_is ∙ ap (λ n. sink - n) takes.from) in
+        gain_back gain label.gain arc.gain to.gain (get_or table ((sink - to.place) * count + goes.next) (pos 0)) (get_or table ((sink - label.place) * count + state) (pos 0)) rest takes.gain
+        (subst (λ z. (z +ℤ arc.gain) ≤ℤ get_or table ((sink - label.place) * count + state) (pos 0)) there
+        (subst (λ z. (get_or table ((graph.places - 1 - arc.to) * count + goes.next) (pos 0) +ℤ arc.gain) ≤ℤ z) here on))
+
+    pub bound_of_table : IsBound extend done graph (λ place resource. get_or table ((sink - place) * count + shows resource) (pos 0))
+    bound_of_table label chain gain last leads is_done = seen_bound label chain gain last (shows label.resource) (laws.shown label.resource) (laws.seen label.resource) leads is_done
 
 pub rows_fit : (row rows count length : ℕ) → row < rows → length ≡ rows * count → (row + 1) * count ≤ length
 rows_fit row rows count length less long = subst (λ n. (row + 1) * count ≤ n) (sym long) (mul-le-mul_right {m = row + 1} {n = rows} count (omega (arith, less)))

@@ -8,8 +8,8 @@ use Rattle.label_lattice.specs.Laws.{ResourceLaws}
 use Rattle.label_setter.specs.declared.graph.Arc.{Arc}
 use Rattle.label_setter.specs.Graphs.{FitsPlaces, IsGraph}
 use Rattle.label_setter.specs.Chains.{GraphOf, IsFeasible, Leads, Reached, Takes, source}
-use Rattle.label_setter.specs.Rests.{IsRest}
 use Rattle.chain_search.specs.declared.marks.Mark.{Mark}
+use Rattle.chain_search.specs.Bounds.{IsBound}
 use Rattle.chain_search.specs.Leavings.{Leaving}
 use Rattle.chain_search.specs.Marking.{dispenses}
 use Rattle.chain_search.specs.Searches.{NoneAbove, reached_mark}
@@ -17,12 +17,6 @@ use Rattle.chain_search.proofs.ListReads.{contains_read, read_contains, same_som
 
 pub le_through : (a b c : ℤ) → a ≤ℤ b → b ≤ℤ c → a ≤ℤ c
 le_through a b c p q = omega (arith, ints)
-
-with_rest : (a r : ℤ) → pos 0 ≤ℤ r → a ≤ℤ (a +ℤ r)
-with_rest a r h = omega (arith, ints)
-
-le_same : (a b : ℤ) → a ≡ b → a ≤ℤ b
-le_same a b e = omega (arith, ints)
 
 gain_through : (a b g x y : ℤ) → a ≤ℤ b → x ≡ a +ℤ g → y ≡ b +ℤ g → x ≤ℤ y
 gain_through a b g x y p e f = omega (arith, ints)
@@ -80,17 +74,9 @@ module _ {R S E : Type 0} (extend : R → S → Option R) (done : R → E → Bo
       absurd (omega (arith, forward, within, from, at))
 
   -- where what may still be gained is too little
-  module _ (rest : ℕ → R → ℤ) (rests : IsRest extend done graph rest) where
-    rest_along : (a b : Reached R) (chain : List ℕ) → Leads extend graph.arcs a chain b → (b.gain +ℤ rest b.place b.resource) ≤ℤ (a.gain +ℤ rest a.place a.resource)
-    rest_along a b [] leads = le_same (b.gain +ℤ rest b.place b.resource) (a.gain +ℤ rest a.place a.resource) (ap (λ (r : Reached R). r.gain +ℤ rest r.place r.resource) (sym leads))
-    rest_along a b (number ∷ chain) leads = le_through _ (leads.0.gain +ℤ rest leads.0.place leads.0.resource) _ (rest_along leads.0 b chain leads.2) (rests.along a leads.0 number leads.1)
-
-    pub none_in_rest : (label : Reached R) → (label.gain +ℤ rest label.place label.resource) ≤ℤ over → NoneAbove extend done graph over label
-    unfolding NoneAbove
-    none_in_rest label most chain gain last leads is_done =
-        let end : Reached R = record { place = graph.places - 1; gain = gain; resource = last } in
-        le_through gain (gain +ℤ rest (graph.places - 1) last) over (with_rest gain (rest (graph.places - 1) last) (rests.ends last is_done))
-        (le_through (gain +ℤ rest (graph.places - 1) last) (label.gain +ℤ rest label.place label.resource) over (rest_along label end chain leads) most)
+  pub none_in_rest : (rest : ℕ → R → ℤ) → IsBound extend done graph rest → (label : Reached R) → (label.gain +ℤ rest label.place label.resource) ≤ℤ over → NoneAbove extend done graph over label
+  unfolding NoneAbove
+  none_in_rest rest bound label most chain gain last leads is_done = le_through gain (label.gain +ℤ rest label.place label.resource) over (bound label chain gain last leads is_done) most
 
   -- a mark that dispenses with a label
   module _ (below : R → R → Bool) (laws : ResourceLaws below extend done) where

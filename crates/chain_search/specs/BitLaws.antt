@@ -15,7 +15,7 @@ use Rattle.label_lattice.specs.Mask.{mask_done, mask_extend, unset_weight}
 use Rattle.chain_search.specs.declared.chosen.Chosen.{Chosen}
 use Rattle.chain_search.specs.declared.chosen.Bits.{Bits}
 use Rattle.chain_search.specs.Views.{CoarseLaws}
-use Rattle.chain_search.specs.BitStates.{are_known, bits_count, bits_ends, bits_fit_end, bits_move, bits_moves, bits_shows, state_of, weight_of}
+use Rattle.chain_search.specs.BitStates.{are_known, bits_count, bits_ends, bits_fit_end, bits_move, bits_moves, bits_sees, bits_shows, state_of, weight_of}
 
 low_bit : (a x : ℕ) → a < 2 → (a + 2 * x) % 2 ≡ a
 low_bit a x p = omega arith
@@ -181,10 +181,21 @@ bits_stay view step state next less is =
     let both = or_lt wide (bit_and state (state_of view.chosen.items (2 ^ 64 - 1 - step.clear))) (state_of view.chosen.items step.set) kept (state_below view.chosen.items step.set) in
     subst (λ n. n < bits_count view) same both
 
-pub bits_laws : (view : Bits) → CoarseLaws mask_extend mask_done (bits_count view) (bits_shows view) (λ step. bits_moves (bits_move view step)) (bits_ends view) (λ step. true) (bits_fit_end view)
+same_state : (a b : ℕ) → (a == b) ≡ true → a ≡ b
+same_state a b h = grind (arith, nat_tests)
+
+is_state : (a b : ℕ) → a ≡ b → (a == b) ≡ true
+is_state a b h = grind (arith, nat_tests)
+
+pub bits_laws : (view : Bits) → CoarseLaws mask_extend mask_done (bits_count view) (bits_shows view) (bits_sees view) (λ step. bits_moves (bits_move view step)) (bits_ends view) (λ step. true) (bits_fit_end view)
 bits_laws view = record {
   shown = λ a. state_below view.chosen.items a.bits;
+  seen = λ a. is_state (bits_shows view a) (bits_shows view a) refl;
   stays = bits_stay view;
-  along = λ a b step fits is. bits_along view a b step is;
-  final = bits_final view;
+  along = λ a b step state fits seen is. record {
+    next = bits_shows view b;
+    is = subst (λ n. bits_moves (bits_move view step) n ≡ Some (bits_shows view b)) (sym (same_state state (bits_shows view a) seen)) (bits_along view a b step is);
+    passes = is_state (bits_shows view b) (bits_shows view b) refl;
+  };
+  final = λ a end state fits seen is. subst (λ n. bits_ends view n ≡ true) (sym (same_state state (bits_shows view a) seen)) (bits_final view a end fits is);
 }

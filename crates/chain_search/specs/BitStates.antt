@@ -40,7 +40,12 @@ abbrev pub bits_moves : BitsMove → ℕ → Option ℕ
 bits_moves by state = Some (bit_or (bit_and state by.keep) by.set)
 
 abbrev pub bits_move : Bits → MaskStep → BitsMove
-bits_move view step = record { keep = state_of view.chosen.items (2 ^ 64 - 1 - step.clear); set = state_of view.chosen.items step.set }
+bits_move view step =
+    record { keep = state_of view.chosen.items (2 ^ 64 - 1 - step.clear); set = state_of view.chosen.items step.set }
+
+-- just the state that is shown
+abbrev pub bits_sees : Bits → Mask → ℕ → Bool
+bits_sees view a state = state == bits_shows view a
 
 abbrev pub bits_ends : Bits → ℕ → Bool
 bits_ends view state = nat_le (weight_of view.chosen.items state) view.allowed

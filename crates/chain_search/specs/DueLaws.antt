@@ -1,15 +1,13 @@
 -- The laws of `Due`.
 use Rattle.std.specs.Prelude.{◌≡◌, ◌<◌, ◌≤◌, ◌+◌, ◌-◌, ◌*◌, ◌/◌, ◌==◌, ◌^◌, ◌⊎◌, ℕ, zero, suc, Bool, Some, true, false, nat_le, nat_lt, if◌then◌else◌, refl}
 use Rattle.std.proofs.Common.{arith, sym, ◌∙◌, ap, subst, inl, inr}
-use Rattle.std.proofs.lemmas.Bool.{and_parts}
 use Rattle.std.proofs.lemmas.Bool.Decides.{nat_tests}
-use Rattle.std.proofs.Math.Nat.{div-zero, lt-div-mul-add, mul-div_cancel, mul-sub, zero-div}
+use Rattle.std.proofs.Math.Nat.{div-zero, lt-div-mul-add, mul-div_cancel, zero-div}
 use Rattle.label_lattice.specs.Span.{span_extend, span_done}
 use Rattle.chain_search.specs.declared.dues.Due.{Due}
 use Rattle.chain_search.specs.Views.{CoarseLaws}
-use Rattle.chain_search.specs.Rooms.{is_whole}
-use Rattle.chain_search.specs.Dues.{due_count, due_fits, due_fits_end, due_move, due_shows, units_over}
-use Rattle.chain_search.specs.RoomLaws.{div_le, same_number, taken}
+use Rattle.chain_search.specs.Dues.{due_count, due_fits, due_fits_end, due_move, due_sees, due_shows, units_over}
+use Rattle.chain_search.specs.RoomLaws.{div_le, taken}
 
 over_zero : (u : ℕ) → units_over 0 u ≡ 0
 over_zero u = let z : 0 / u ≡ 0 = zero-div u in grind (arith, nat_tests)
@@ -52,41 +50,51 @@ over_le : (a b u : ℕ) → a ≤ b → units_over a u ≤ units_over b u
 over_le a b zero p = let x : a / zero ≡ 0 = div-zero a in let y : b / zero ≡ 0 = div-zero b in grind (arith, nat_tests)
 over_le a b (suc u) p = over_least a (suc u) (units_over b (suc u)) (omega arith) (let e = over_enough b (suc u) (omega arith) in omega (arith, e, p))
 
-sub_mul : (a q u : ℕ) → (a - q) * u ≡ a * u - q * u
-sub_mul a q u = let left : u * (a - q) ≡ u * a - u * q = mul-sub u a q in omega (arith, left)
-
 add_mul : (a q u : ℕ) → (a + q) * u ≡ a * u + q * u
 add_mul a q u = omega arith
 
-over_less : (x d u q : ℕ) → q ≡ d / u → d ≡ q * u → units_over (x - d) u ≡ units_over x u - q
-over_less x d zero q is whole =
-    let none : q ≡ 0 = is ∙ div-zero d in
-    let same : x - d ≡ x = omega (arith, whole) in
-    ap (λ n. units_over n zero) same ∙ omega (arith, none)
-over_less x d (suc u) q is whole =
+-- an amount takes no more units than its parts
+over_parts : (x d u : ℕ) → units_over x u ≤ units_over (x - d) u + units_over d u
+over_parts x d zero = none (x / zero) ((x - d) / zero) (d / zero) x d (div-zero x) (div-zero (x - d)) (div-zero d)
+  where
+    none : (a b c x d : ℕ) → a ≡ 0 → b ≡ 0 → c ≡ 0 → a + (if nat_lt (a * zero) x then 1 else 0) ≤ b + (if nat_lt (b * zero) (x - d) then 1 else 0) + (c + (if nat_lt (c * zero) d then 1 else 0))
+    none a b c x d p q r = grind (arith, nat_tests)
+over_parts x d (suc u) =
     let some : 0 < suc u = omega arith in
-    let low : units_over (x - d) (suc u) ≤ units_over x (suc u) - q =
-    over_least (x - d) (suc u) (units_over x (suc u) - q) some (let e = over_enough x (suc u) some in let s = sub_mul (units_over x (suc u)) q (suc u) in omega (arith, e, s, whole)) in
-    let high : units_over x (suc u) ≤ units_over (x - d) (suc u) + q =
-    over_least x (suc u) (units_over (x - d) (suc u) + q) some (let e = over_enough (x - d) (suc u) some in let s = add_mul (units_over (x - d) (suc u)) q (suc u) in omega (arith, e, s, whole)) in
-    omega (arith, low, high)
+    over_least x (suc u) (units_over (x - d) (suc u) + units_over d (suc u)) some
+    (let p = over_enough (x - d) (suc u) some in let q = over_enough d (suc u) some in let both = add_mul (units_over (x - d) (suc u)) (units_over d (suc u)) (suc u) in omega (arith, p, q, both))
 
-pub due_laws : (due : Due) → CoarseLaws span_extend span_done (due_count due) (due_shows due) (λ step state. Some (state - due_move due step)) (λ state. state == 0) (due_fits due) (due_fits_end due)
+means_le : (a b : ℕ) → nat_le a b ≡ true → a ≤ b
+means_le a b h = grind (arith, nat_tests)
+
+is_le : (a b : ℕ) → a ≤ b → nat_le a b ≡ true
+is_le a b h = grind (arith, nat_tests)
+
+pub due_laws : (due : Due) → CoarseLaws span_extend span_done (due_count due) (due_shows due) (due_sees due) (λ step state. Some (state - due_move due step)) (λ state. state == 0) (due_fits due) (due_fits_end due)
 due_laws due = record {
   shown = λ a. let less = over_le (due.low - a.up) due.low due.unit (omega arith) in omega (arith, less);
+  seen = λ a. is_le (due_shows due a) (due_shows due a) (omega arith);
   stays = λ step state next less is. let same : state - due_move due step ≡ next = cc in omega (arith, same, less);
-  along = λ a b step fits is.
-      let parts = and_parts (nat_le due.low (2 ^ 31)) (is_whole step.up due.unit) fits in
-      let most : due.low ≤ 2 ^ 31 = let h = parts.0 in grind (arith, nat_tests) in
-      let whole : step.up ≡ step.up / due.unit * due.unit = same_number step.up (step.up / due.unit * due.unit) parts.1 in
+  along = λ a b step state fits seen is.
+      let most : due.low ≤ 2 ^ 31 = means_le due.low (2 ^ 31) fits in
       let t = taken a b step is in
       let up = t.up in
       let missing : due.low - b.up ≡ due.low - a.up - step.up = omega (arith, up, most) in
-      ap Some (sym (ap (λ n. units_over n due.unit) missing ∙ over_less (due.low - a.up) step.up due.unit (due_move due step) refl whole));
-  final = λ a end fits is.
-      let least : due.low ≤ end.low = let h = fits in grind (arith, nat_tests) in
-      let enough : end.low ≤ a.up = let h = is in grind (arith, nat_tests) in
+      let parts = over_parts (due.low - a.up) step.up due.unit in
+      let before = means_le state (due_shows due a) seen in
+      let after : state - due_move due step ≤ units_over (due.low - a.up - step.up) due.unit = omega (arith, parts, before) in
+      record {
+        next = state - due_move due step;
+        is = refl;
+        passes = is_le (state - due_move due step) (due_shows due b) (subst (λ n. state - due_move due step ≤ units_over n due.unit) (sym missing) after);
+      };
+  final = λ a end state fits seen is.
+      let least : due.low ≤ end.low = means_le due.low end.low fits in
+      let enough : end.low ≤ a.up = means_le end.low a.up is in
       let none : due.low - a.up ≡ 0 = omega (arith, least, enough) in
       let zero_units : units_over (due.low - a.up) due.unit ≡ 0 = ap (λ n. units_over n due.unit) none ∙ over_zero due.unit in
-      grind (arith, nat_tests);
-}
+      let before = means_le state (due_shows due a) seen in
+      is_zero state (omega (arith, before, zero_units));
+} where
+  is_zero : (n : ℕ) → n ≡ 0 → (n == 0) ≡ true
+  is_zero n e = grind (arith, nat_tests)

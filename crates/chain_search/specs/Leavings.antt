@@ -10,7 +10,8 @@ pub record LeavesFrom {S : Type 0} (arcs : List (Arc S)) (place number : ℕ) : 
 
 -- the numbers are those of the arcs that begin at the place
 pub record Leaving {S : Type 0} (arcs : List (Arc S)) (place : ℕ) (numbers : List ℕ) : Type 0 where
-  pub listed : (number : ℕ) (arc : Arc S) → slice_get arcs number ≡ Some arc → arc.from ≡ place → Contains numbers number
+  pub listed :
+      (number : ℕ) (arc : Arc S) → slice_get arcs number ≡ Some arc → arc.from ≡ place → Contains numbers number
   pub right : All (LeavesFrom arcs place) numbers
 
 -- for each place the numbers of the arcs that begin there

@@ -15,3 +15,5 @@ pub mod DueLaws
 pub mod BitStates
 pub mod BitLaws
 pub mod PartLaws
+pub mod Lastings
+pub mod Bounds

@@ -18,7 +18,8 @@ pub record HoldsMore {R : Type 0} (old : List (Mark R)) (mark : Mark R) (new : L
   pub from : (x : Mark R) → Contains new x → Contains old x ⊎ (x ≡ mark)
 
 -- beside the place stands this mark, and no other that did not stand there before
-pub record KeepsMark {R : Type 0} (old : List (List (Mark R))) (place : ℕ) (mark : Mark R) (new : List (List (Mark R))) : Type 0 where
+pub record KeepsMark {R : Type 0} (old : List (List (Mark R))) (place : ℕ) (mark : Mark R)
+    (new : List (List (Mark R))) : Type 0 where
   pub count : length new ≡ length old
   pub stands : Stands new place mark
   pub from : (at : ℕ) (x : Mark R) → Stands new at x → Stands old at x ⊎ ((at ≡ place) × (x ≡ mark))

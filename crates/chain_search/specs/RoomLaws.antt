@@ -1,16 +1,15 @@
 -- The laws of `Room`.
 use Rattle.std.specs.Prelude.{◌≡◌, ◌<◌, ◌≤◌, ◌+◌, ◌-◌, ◌*◌, ◌/◌, ◌==◌, ◌^◌, ℕ, min, zero, suc, Bool, Some, None, true, false, nat_le, refl}
 use Rattle.std.proofs.Common.{arith, sym, ◌∙◌, ap, subst, cond}
-use Rattle.std.proofs.lemmas.Bool.{and_parts}
 use Rattle.std.proofs.lemmas.Bool.Decides.{nat_tests}
-use Rattle.std.proofs.Math.Nat.{add-mul-div_right, div-zero, div-mul-le_self}
+use Rattle.std.proofs.Math.Nat.{div-zero, div-mul-le_self}
 use Rattle.std.proofs.lemmas.Nat.{le-div}
 use Rattle.label_lattice.specs.declared.spans.Span.{Span}
 use Rattle.label_lattice.specs.declared.spans.SpanStep.{SpanStep}
 use Rattle.label_lattice.specs.Span.{span_extend, span_done}
 use Rattle.chain_search.specs.declared.rooms.Room.{Room}
-use Rattle.chain_search.specs.Views.{CoarseLaws}
-use Rattle.chain_search.specs.Rooms.{is_whole, less_by, room_count, room_fits, room_move, room_shows}
+use Rattle.chain_search.specs.Views.{CoarseLaws, GoesOn}
+use Rattle.chain_search.specs.Rooms.{less_by, room_count, room_fits, room_move, room_sees, room_shows}
 
 pub div_le : (a b u : ℕ) → a ≤ b → a / u ≤ b / u
 div_le a b zero p = let x : a / zero ≡ zero = div-zero a in omega (arith, x)
@@ -19,17 +18,15 @@ div_le a b (suc u) p = le-div (a / suc u) b (suc u) (omega arith) (let q = div-m
 pub same_number : (a b : ℕ) → (a == b) ≡ true → a ≡ b
 same_number a b h = grind (arith, nat_tests)
 
--- whole units taken from an amount
-pub record Less (x q u : ℕ) : Type 0 where
-  pub fits : q ≤ x / u
-  pub left : (x - q * u) / u ≡ x / u - q
-
-pub less_units : (x q u : ℕ) → 0 < u → q * u ≤ x → Less x q u
-less_units x q u some p =
-    let whole : (x - q * u + q * u) / u ≡ (x - q * u) / u + q = add-mul-div_right (x - q * u) q some in
-    let same : x - q * u + q * u ≡ x = omega (arith, p) in
-    let is : x / u ≡ (x - q * u) / u + q = ap (λ n. n / u) (sym same) ∙ whole in
-    record { fits = omega (arith, is); left = omega (arith, is) }
+-- whole units of two amounts are no more than those of both together
+add_units : (x y u : ℕ) → x / u + y / u ≤ (x + y) / u
+add_units x y zero = let a : x / zero ≡ 0 = div-zero x in let b : y / zero ≡ 0 = div-zero y in omega (arith, a, b)
+add_units x y (suc u) =
+    le-div (x / suc u + y / suc u) (x + y) (suc u) (omega arith)
+    (let p = div-mul-le_self x (suc u) in let q = div-mul-le_self y (suc u) in let both = both_mul (x / suc u) (y / suc u) (suc u) in omega (arith, p, q, both))
+  where
+    both_mul : (a b n : ℕ) → (a + b) * n ≡ a * n + b * n
+    both_mul a b n = omega arith
 
 -- a step that is taken
 pub record Taken (a b : Span) (step : SpanStep) : Type 0 where
@@ -56,31 +53,38 @@ less_stays by state next count less is = go (nat_le by state) is
     go true h = let same : state - by ≡ next = cc in omega (arith, same, less)
     go false h = cc
 
-left_by : (cap down d unit q : ℕ) → q ≡ d / unit → d ≡ q * unit → down + d ≤ cap → less_by q ((cap - down) / unit) ≡ Some ((cap - (down + d)) / unit)
-left_by cap down d zero q is whole p =
-    let none : q ≡ 0 = is ∙ div-zero d in
-    let a : (cap - down) / zero ≡ 0 = div-zero (cap - down) in
-    let b : (cap - (down + d)) / zero ≡ 0 = div-zero (cap - (down + d)) in
-    less_some q ((cap - down) / zero) ((cap - (down + d)) / zero) (omega (arith, none)) (omega (arith, none, a, b))
-left_by cap down d (suc u) q is whole p =
-    let parts = less_units (cap - down) q (suc u) (omega arith) (omega (arith, whole, p)) in
-    let rest : cap - (down + d) ≡ cap - down - q * suc u = omega (arith, whole) in
-    less_some q ((cap - down) / suc u) ((cap - (down + d)) / suc u) parts.fits (ap (λ n. n / suc u) rest ∙ parts.left)
+means_le : (a b : ℕ) → nat_le a b ≡ true → a ≤ b
+means_le a b h = grind (arith, nat_tests)
 
-room_along : (room : Room) (a b : Span) (step : SpanStep) → room_fits room step ≡ true → span_extend a step ≡ Some b → less_by (room_move room step) (room_shows room a) ≡ Some (room_shows room b)
-room_along room a b step fits is =
-    let parts = and_parts (step.cap == room.cap) (is_whole step.down room.unit) fits in
-    let cap : step.cap ≡ room.cap = same_number step.cap room.cap parts.0 in
-    let whole : step.down ≡ step.down / room.unit * room.unit = same_number step.down (step.down / room.unit * room.unit) parts.1 in
+is_le : (a b : ℕ) → a ≤ b → nat_le a b ≡ true
+is_le a b h = grind (arith, nat_tests)
+
+-- less room than a state has leaves no more than the next state has
+left_by : (cap down d unit state : ℕ) → down + d ≤ cap → (cap - down) / unit ≤ state → GoesOn (nat_le ((cap - (down + d)) / unit)) (less_by (d / unit) state)
+left_by cap down d unit state within seen =
+    let parts = add_units (cap - (down + d)) d unit in
+    let whole : cap - (down + d) + d ≡ cap - down = omega (arith, within) in
+    let less : (cap - (down + d)) / unit + d / unit ≤ (cap - down) / unit = subst (λ n. (cap - (down + d)) / unit + d / unit ≤ n / unit) whole parts in
+    record {
+      next = state - d / unit;
+      is = less_some (d / unit) state (state - d / unit) (omega (arith, less, seen)) refl;
+      passes = is_le ((cap - (down + d)) / unit) (state - d / unit) (omega (arith, less, seen));
+    }
+
+room_along : (room : Room) (a b : Span) (step : SpanStep) (state : ℕ) → room_fits room step ≡ true → room_sees room a state ≡ true → span_extend a step ≡ Some b
+    → GoesOn (room_sees room b) (less_by (room_move room step) state)
+room_along room a b step state fits seen is =
+    let cap : step.cap ≡ room.cap = same_number step.cap room.cap fits in
     let t = taken a b step is in
     let capped = t.capped in
-    subst (λ n. less_by (room_move room step) (room_shows room a) ≡ Some ((room.cap - n) / room.unit)) (sym t.down)
-    (left_by room.cap a.down step.down room.unit (step.down / room.unit) refl whole (omega (arith, cap, capped)))
+    subst (λ n. GoesOn (nat_le ((room.cap - n) / room.unit)) (less_by (room_move room step) state)) (sym t.down)
+    (left_by room.cap a.down step.down room.unit state (omega (arith, cap, capped)) (means_le (room_shows room a) state seen))
 
-pub room_laws : (room : Room) → CoarseLaws span_extend span_done (room_count room) (room_shows room) (λ step. less_by (room_move room step)) (λ state. true) (room_fits room) (λ end. true)
+pub room_laws : (room : Room) → CoarseLaws span_extend span_done (room_count room) (room_shows room) (room_sees room) (λ step. less_by (room_move room step)) (λ state. true) (room_fits room) (λ end. true)
 room_laws room = record {
   shown = λ a. let less = div_le (room.cap - a.down) room.cap room.unit (omega arith) in omega (arith, less);
+  seen = λ a. is_le (room_shows room a) (room_shows room a) (omega arith);
   stays = λ step state next less is. less_stays (room_move room step) state next (room_count room) less is;
   along = room_along room;
-  final = λ a end fits is. refl;
+  final = λ a end state fits seen is. refl;
 }

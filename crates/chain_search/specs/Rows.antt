@@ -16,8 +16,12 @@ pub record IsBack (moves : ℕ → Option ℕ) (there : List ℤ) (gain : ℤ) (
 -- no number fell; each was there before or comes back by the move; and each is at least what is gained before the number of the state that the move leads to
 pub record RaisedBy (moves : ℕ → Option ℕ) (there : List ℤ) (gain : ℤ) (old new : List ℤ) : Type 0 where
   pub risen : (k : ℕ) → get_or old k (pos 0) ≤ℤ get_or new k (pos 0)
-  pub over : (state next : ℕ) → state < length old → moves state ≡ Some next → (get_or there next (pos 0) +ℤ gain) ≤ℤ get_or new state (pos 0)
-  pub from : (state : ℕ) → (get_or new state (pos 0) ≡ get_or old state (pos 0)) ⊎ IsBack moves there gain state (get_or new state (pos 0))
+  pub over :
+      (state next : ℕ) → state < length old → moves state ≡ Some next
+      → (get_or there next (pos 0) +ℤ gain) ≤ℤ get_or new state (pos 0)
+  pub from :
+      (state : ℕ)
+      → (get_or new state (pos 0) ≡ get_or old state (pos 0)) ⊎ IsBack moves there gain state (get_or new state (pos 0))
   pub between : (arcs : ℕ) → IsBetween arcs there → IsBetween (arcs + 1) old → IsBetween (arcs + 1) new
 
 -- the numbers of the row are at least what the arc gains before those of the place where it leads
@@ -26,7 +30,8 @@ GoesBack moves count sink table row arc =
     (state next : ℕ) → state < count → moves arc.step state ≡ Some next → (get_or table ((sink - arc.to) * count + next) (pos 0) +ℤ arc.gain) ≤ℤ get_or row state (pos 0)
 
 -- the number is what an arc from the place gains before that of the place where it leads
-pub record ComesBack {S : Type 0} (moves : S → ℕ → Option ℕ) (count sink : ℕ) (arcs : List (Arc S)) (place : ℕ) (table : List ℤ) (state : ℕ) (number : ℤ) : Type 0 where
+pub record ComesBack {S : Type 0} (moves : S → ℕ → Option ℕ) (count sink : ℕ) (arcs : List (Arc S)) (place : ℕ)
+    (table : List ℤ) (state : ℕ) (number : ℤ) : Type 0 where
   pub index : ℕ
   pub arc : Arc S
   pub is : slice_get arcs index ≡ Some arc

@@ -9,7 +9,8 @@ LeadsDown {S} moves ends arcs sink place state (number ∷ chain) gain =
     (arc : Arc S) × (next : ℕ) × (after : ℤ) × (slice_get arcs number ≡ Some arc) × (arc.from ≡ place) × (moves arc.step state ≡ Some next) × (gain ≡ after +ℤ arc.gain) × LeadsDown moves ends arcs sink arc.to next chain after
 
 -- some chain that the view sees from there gains just this number
-pub record IsSeen {S : Type 0} (moves : S → ℕ → Option ℕ) (ends : ℕ → Bool) (arcs : List (Arc S)) (sink place state : ℕ) (number : ℤ) : Type 0 where
+pub record IsSeen {S : Type 0} (moves : S → ℕ → Option ℕ) (ends : ℕ → Bool) (arcs : List (Arc S))
+    (sink place state : ℕ) (number : ℤ) : Type 0 where
   pub chain : List ℕ
   pub leads : LeadsDown moves ends arcs sink place state chain number
 

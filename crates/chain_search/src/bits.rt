@@ -2,7 +2,7 @@
 
 ghost use Rattle.std.specs.Prelude.{◌≡◌, ◌≤◌, ◌<◌, ◌^◌, ◌&&◌, ◌-◌, ◌%◌, ◌==◌, All, if◌then◌else◌, IfOk, length, nat_le, nat_lt, slice_index, sum, true};
 ghost use Rattle.std.specs.Int.{bit_at};
-ghost use Rattle.chain_search.specs.BitStates.{are_known, bits_count, bits_ends, bits_fit_end, bits_move, bits_moves, bits_shows, chosen_of, state_of, weight_of};
+ghost use Rattle.chain_search.specs.BitStates.{are_known, bits_count, bits_ends, bits_fit_end, bits_move, bits_moves, bits_sees, bits_shows, chosen_of, state_of, weight_of};
 ghost use Rattle.chain_search.specs.BitLaws.{bits_laws};
 
 use crate::chosen::{Bits, Chosen};
@@ -138,6 +138,8 @@ impl Coarse<Mask> for Bits {
     ghost count = { bits_count };
 
     ghost shows = { bits_shows };
+
+    ghost sees = { bits_sees };
 
     ghost moves = { bits_moves };
 

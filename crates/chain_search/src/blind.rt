@@ -17,6 +17,8 @@ impl<R: Resource> Coarse<R> for Blind {
 
     ghost shows = { λ view a. 0 };
 
+    ghost sees = { λ view a state. true };
+
     ghost moves = { λ by state. Some 0 };
 
     ghost move_of = { λ view step. record {} };

@@ -7,8 +7,8 @@ ghost use Rattle.chain_search.specs.Views.{CoarseLaws, follows};
 use label_lattice::Resource;
 use label_setter::{Arc, Graph};
 
-/// A view of a resource that tells finitely many states apart. Along a step that the view follows the state goes on as
-/// the move of the step says, whatever else the resource holds.
+/// A view of a resource that tells finitely many states apart. Along a step that the view follows a state goes on as
+/// the move of the step says, whatever else the resource holds; a view may round, and so go on to a state of more.
 pub trait Coarse<R: Resource> {
     /// What a step does to states.
     type Move: Copy;
@@ -18,6 +18,9 @@ pub trait Coarse<R: Resource> {
 
     /// The state of a resource.
     ghost shows: { Self → R → ℕ };
+
+    /// A resource is seen in this state: in its own, or in one from which no less may come.
+    ghost sees: { Self → R → ℕ → Bool };
 
     /// What a move makes of a state; nothing where no resource in this state takes the step.
     ghost moves: { Self.Move → ℕ → Option ℕ };
@@ -56,8 +59,9 @@ pub trait Coarse<R: Resource> {
     fn fits_end(&self, end: &R::End) -> bool
         ensures fits { result ≡ fits_end self.now end.now };
 
-    /// The states that are shown are among those that are counted, and go on by the moves to those that may be done.
-    ghost laws: { (view : Self) → CoarseLaws R.extend R.done (count view) (shows view) (λ step. moves (move_of view step)) (ends view) (fits_step view) (fits_end view) };
+    /// The states that are shown are among those that are counted; states in which resources are seen go on by the moves
+    /// to such states, and to those that may be done.
+    ghost laws: { (view : Self) → CoarseLaws R.extend R.done (count view) (shows view) (sees view) (λ step. moves (move_of view step)) (ends view) (fits_step view) (fits_end view) };
 }
 
 /// The view follows the steps of these arcs.

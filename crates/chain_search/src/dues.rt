@@ -1,15 +1,15 @@
 //! What is due to a low end.
 
 ghost use Rattle.std.specs.Prelude.{◌≡◌, ◌-◌, ◌==◌, Some};
-ghost use Rattle.chain_search.specs.Dues.{due_count, due_fits, due_fits_end, due_move, due_shows, units_over};
+ghost use Rattle.chain_search.specs.Dues.{due_count, due_fits, due_fits_end, due_move, due_sees, due_shows, units_over};
 ghost use Rattle.chain_search.specs.DueLaws.{due_laws};
 
 use crate::coarse::Coarse;
-use crate::rooms::{is_whole, units_in};
+use crate::rooms::units_in;
 use label_lattice::{Span, SpanEnd, SpanStep};
 
-/// How many units, a part of one counted whole, `up` is below the low end. The view follows steps that add whole units to
-/// `up`, and ends that ask for at most this low end.
+/// How many units, a part of one counted whole, `up` is below the low end. A part of a unit that a step adds counts
+/// whole. The view knows ends that ask for at least this low end.
 #[derive(Clone, Copy, Debug, Drop, PartialEq, Eq)]
 pub struct Due {
     pub low: u32,
@@ -35,6 +35,8 @@ impl Coarse<Span> for Due {
 
     ghost shows = { due_shows };
 
+    ghost sees = { due_sees };
+
     ghost moves = { λ by state. Some (state - by) };
 
     ghost move_of = { due_move };
@@ -58,15 +60,15 @@ impl Coarse<Span> for Due {
     }
 
     fn move_of(&self, step: &SpanStep) -> u32 {
-        units_in(step.up, self.unit)
+        units_over(step.up, self.unit)
     }
 
     fn ends(&self, state: u32) -> bool {
         state == 0
     }
 
-    fn fits_step(&self, step: &SpanStep) -> bool {
-        self.low <= 1 << 31 && is_whole(step.up, self.unit)
+    fn fits_step(&self, _step: &SpanStep) -> bool {
+        self.low <= 1 << 31
     }
 
     fn fits_end(&self, end: &SpanEnd) -> bool {

@@ -1,7 +1,7 @@
 //! The least of two bounds on what chains may still gain.
 
 ghost use Rattle.std.specs.Prelude.{◌≡◌};
-ghost use Rattle.label_setter.specs.Rests.{IsRest};
+ghost use Rattle.chain_search.specs.Bounds.{IsBound};
 ghost use Rattle.chain_search.specs.LeastRests.{least_of};
 
 use label_lattice::Resource;
@@ -32,10 +32,10 @@ pub fn least_rest<R: Resource, A: Rest<R>, B: Rest<R>>(
     first: A,
     second: B,
 ) -> LeastRest<A, B>
-    requires first { IsRest R.extend R.done _graph.now (A.rest first) }
-    requires second { IsRest R.extend R.done _graph.now (B.rest second) }
+    requires first { IsBound R.extend R.done _graph.now (A.rest first) }
+    requires second { IsBound R.extend R.done _graph.now (B.rest second) }
     ensures parts { result ≡ record { first = first; second = second } }
-    ensures rest { IsRest R.extend R.done _graph.now (least_of (A.rest result.first) (B.rest result.second)) }
+    ensures rest { IsBound R.extend R.done _graph.now (least_of (A.rest result.first) (B.rest result.second)) }
 {
     LeastRest { first, second }
 }

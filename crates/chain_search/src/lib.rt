@@ -1,8 +1,9 @@
 //! Whether a feasible chain of a graph gains more than a bound, and bounds on what chains may still gain.
 //!
 //! The search goes down the graph by the arcs that leave each place. A label is let go where what it gained and may
-//! still gain is not above the bound, or where a label from which all ways were tried dispenses with it. What chains may
-//! still gain is read from tables over coarse views of a resource, each with finitely many states.
+//! still gain is not above the bound, or where a label from which all ways were tried dispenses with it. What chains
+//! may still gain is read from tables over coarse views of a resource, each with finitely many states, and from the bits
+//! that no later arc clears.
 #![tactic(auto)]
 
 mod bits;
@@ -10,6 +11,7 @@ mod blind;
 mod chosen;
 mod coarse;
 mod dues;
+mod lasting;
 mod least;
 mod marks;
 mod parts;
@@ -24,6 +26,7 @@ pub use blind::Blind;
 pub use chosen::{Bits, Chosen};
 pub use coarse::{Coarse, follows};
 pub use dues::Due;
+pub use lasting::{Lasting, lasting_rest};
 pub use least::{LeastRest, least_rest};
 pub use parts::{First, Second};
 pub use rooms::Room;

@@ -24,6 +24,8 @@ impl<A: Resource, B: Resource, C: Coarse<A>> Coarse<Pair<A, B>> for First<C> {
 
     ghost shows = { λ part a. C.shows part.view a.first };
 
+    ghost sees = { λ part a. C.sees part.view a.first };
+
     ghost moves = { C.moves };
 
     ghost move_of = { λ part step. C.move_of part.view step.0 };
@@ -71,6 +73,8 @@ impl<A: Resource, B: Resource, C: Coarse<B>> Coarse<Pair<A, B>> for Second<C> {
     ghost count = { λ part. C.count part.view };
 
     ghost shows = { λ part a. C.shows part.view a.second };
+
+    ghost sees = { λ part a. C.sees part.view a.second };
 
     ghost moves = { C.moves };
 

@@ -1,14 +1,14 @@
 //! What is left of a cap.
 
 ghost use Rattle.std.specs.Prelude.{◌≡◌, ◌/◌, true};
-ghost use Rattle.chain_search.specs.Rooms.{is_whole, less_by, room_count, room_fits, room_move, room_shows};
+ghost use Rattle.chain_search.specs.Rooms.{less_by, room_count, room_fits, room_move, room_sees, room_shows};
 ghost use Rattle.chain_search.specs.RoomLaws.{room_laws};
 
 use crate::coarse::Coarse;
 use label_lattice::{Span, SpanEnd, SpanStep};
 
-/// How many whole units `down` is below the cap. The view follows steps with this cap that add whole units to `down`.
-/// With a unit of 0 it follows none.
+/// How many whole units `down` is below the cap. The view follows steps with this cap, and takes off as many whole units
+/// as they add. With a unit of 0 it has one state.
 #[derive(Clone, Copy, Debug, Drop, PartialEq, Eq)]
 pub struct Room {
     pub cap: u32,
@@ -22,19 +22,14 @@ pub(crate) fn units_in(amount: u32, unit: u32) -> u32
     amount.checked_div(unit).unwrap_or(0)
 }
 
-/// The amount is so many whole units.
-pub(crate) fn is_whole(amount: u32, unit: u32) -> bool
-    ensures whole { result ≡ is_whole amount unit }
-{
-    amount == units_in(amount, unit) * unit
-}
-
 impl Coarse<Span> for Room {
     type Move = u32;
 
     ghost count = { room_count };
 
     ghost shows = { room_shows };
+
+    ghost sees = { room_sees };
 
     ghost moves = { less_by };
 
@@ -67,7 +62,7 @@ impl Coarse<Span> for Room {
     }
 
     fn fits_step(&self, step: &SpanStep) -> bool {
-        step.cap == self.cap && is_whole(step.down, self.unit)
+        step.cap == self.cap
     }
 
     fn fits_end(&self, _end: &SpanEnd) -> bool {

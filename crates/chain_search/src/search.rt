@@ -3,7 +3,7 @@
 ghost use Rattle.std.specs.Prelude.{◌≡◌, ◌+◌, ◌<◌, ◌≤◌, ◌≤ℤ◌, ◌++◌, ◌∷◌, ◌&&◌, [], ℕ, ℤ, IfOk, List, Ok, OnOk, int_lt, length};
 ghost use Rattle.std.specs.Int.Signed.{◌<ℤ◌};
 ghost use Rattle.label_setter.specs.Chains.{IsFeasible};
-ghost use Rattle.label_setter.specs.Rests.{IsRest};
+ghost use Rattle.chain_search.specs.Bounds.{IsBound};
 ghost use Rattle.chain_search.specs.Answers.{IfChain};
 ghost use Rattle.chain_search.specs.Leavings.{AreWays};
 ghost use Rattle.chain_search.specs.Searches.{Hunts};
@@ -66,7 +66,7 @@ fn turn<R: Resource, B: Rest<R>, L: Ledger>(
     steps: &mut Steps<L>,
 ) -> Result<Outcome, Memory>
     requires ways { AreWays graph.now.arcs graph.now.places ways.now }
-    requires rest { IsRest R.extend R.done graph.now (B.rest above.now.rest) }
+    requires rest { IsBound R.extend R.done graph.now (B.rest above.now.rest) }
     requires hunts { Hunts R.extend R.done graph.now above.now.over walk.old.path.items walk.old.marks (walk.old.waiting.items ++ next.now ∷ []) }
     ensures goes { result ≡ Ok Outcome.Goes → Hunts R.extend R.done graph.now above.now.over walk.new.path.items walk.new.marks walk.new.waiting.items }
     ensures comes { result ≡ Ok Outcome.Comes → IsFeasible R.extend R.done graph.now walk.new.path.items next.now.gain }
@@ -127,7 +127,7 @@ pub fn find_above<R: Resource, B: Rest<R>, L: Ledger>(
     steps: &mut Steps<L>,
 ) -> Result<Answer, Memory>
     requires ways { AreWays graph.now.arcs graph.now.places ways.now }
-    requires rest { IsRest R.extend R.done graph.now (B.rest above.now.rest) }
+    requires rest { IsBound R.extend R.done graph.now (B.rest above.now.rest) }
     ensures attained { IfOk result (λ answer. IfChain answer (λ traced. IsFeasible R.extend R.done graph.now traced.arcs traced.gain)) }
     ensures above { IfOk result (λ answer. IfChain answer (λ traced. above.now.over <ℤ traced.gain)) }
     ensures none { result ≡ Ok Answer.Nothing → (chain : List ℕ) (gain : ℤ) → IsFeasible R.extend R.done graph.now chain gain → gain ≤ℤ above.now.over }

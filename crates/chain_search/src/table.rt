@@ -3,7 +3,7 @@
 ghost use Rattle.std.specs.Prelude.{◌≡◌, ◌+◌, ◌-◌, ◌*◌, ◌<◌, ◌≤◌, ◌^◌, ◌≤ℤ◌, ◌+ℤ◌, ◌⊎◌, ℕ, ℤ, IfOk, List, Some, get_or, if◌then◌else◌, length, neg_ℤ, pos, slice_get, true};
 ghost use Rattle.label_setter.specs.declared.graph.Arc.{Arc as ArcOf};
 ghost use Rattle.label_setter.specs.Graphs.{IsGraph};
-ghost use Rattle.label_setter.specs.Rests.{IsRest};
+ghost use Rattle.chain_search.specs.Bounds.{IsBound};
 ghost use Rattle.chain_search.specs.Leavings.{AreWays, Leaving};
 ghost use Rattle.chain_search.specs.Views.{follows};
 ghost use Rattle.chain_search.specs.Rows.{GoesBack, IsBetween, IsLowOrBack, RaisedBy};
@@ -163,7 +163,7 @@ pub fn coarse_rest<R: Resource, C: Coarse<R> + Drop>(
 ) -> Result<CoarseRest<C>, Memory>
     requires ways { AreWays graph.now.arcs graph.now.places ways.now }
     requires follows { follows (C.fits_step coarse) (C.fits_end coarse) graph.now ≡ true }
-    ensures rest { IfOk result (λ rest. IsRest R.extend R.done graph.now (rested C.count C.shows rest)) }
+    ensures rest { IfOk result (λ rest. IsBound R.extend R.done graph.now (rested C.count C.shows rest)) }
     ensures attained { IfOk result (λ rest. (place : ℕ) (a : R) → place < graph.now.places → IsSeenOrLow (λ step. C.moves (C.move_of coarse step)) (C.ends coarse) graph.now.arcs (graph.now.places - 1) place (C.shows coarse a) (rested C.count C.shows rest place a)) }
 {
     let sink = sink_of(graph);

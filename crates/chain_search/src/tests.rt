@@ -147,8 +147,11 @@ fn sees_how_much_room_is_left(rt: HostRuntime) {
     let below = found(alloc, &graph, (Blind, room), 3, 10).expect(&rt, "memory");
     assert!(rt; is_chain(&below, 4, &[0, 3]) || is_chain(&below, 4, &[1, 2]));
     let odd = Room { cap: 180, unit: 50 };
+    let seen = found(alloc, &graph, (odd, Blind), 4, 0).expect(&rt, "memory");
+    assert!(rt; seen == Some(Answer::Nothing));
+    let more = Room { cap: 240, unit: 60 };
     assert!(rt;
-        found(alloc, &graph, (odd, Blind), 3, 10)
+        found(alloc, &graph, (more, Blind), 3, 10)
             .expect(&rt, "memory")
             .is_none()
     );

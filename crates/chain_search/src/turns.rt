@@ -1,8 +1,8 @@
 //! Labels that wait for their turn.
 
 ghost use Rattle.std.specs.Prelude.{◌≡◌, ◌+◌, ◌<◌, ◌≤◌, ◌+ℤ◌, ◌≤ℤ◌, ℕ, IfNone, IfOk, OnOk, Ok, length, true, false};
-ghost use Rattle.label_setter.specs.Rests.{IsRest};
 ghost use Rattle.label_setter.specs.Graphs.{FitsPlaces};
+ghost use Rattle.chain_search.specs.Bounds.{IsBound};
 ghost use Rattle.chain_search.specs.Leavings.{Leaving};
 ghost use Rattle.chain_search.specs.Searches.{Enters, IsWithin, Puts, Spreads};
 
@@ -132,7 +132,7 @@ pub fn spread<R: Resource, B: Rest<R>, L: Ledger>(
     left: &mut u64,
     steps: &mut Steps<L>,
 ) -> Result<bool, Memory>
-    requires rest { IsRest R.extend R.done graph.now (B.rest above.now.rest) }
+    requires rest { IsBound R.extend R.done graph.now (B.rest above.now.rest) }
     requires leaving { Leaving graph.now.arcs label.now.place leaving.now }
     requires before { label.now.place + 1 < graph.now.places }
     requires within { IsWithin label.now.place label.now.gain }

@@ -2,7 +2,7 @@ use Rattle.std.proofs.Common.{◌≡◌, ◌+◌, ◌-◌, ◌<◌, ◌++◌, []
 use Rattle.std.specs.Prelude.{slice_get}
 use Rattle.label_setter.specs.declared.graph.Arc.{Arc}
 use Rattle.chain_search.specs.Rows.{GoesBack, IsBetween, IsLowOrBack}
-use Rattle.chain_search.proofs.TableRows.{filled_more, filled_start, rest_of_table, seen_of_table, written}
+use Rattle.chain_search.proofs.TableRows.{filled_more, filled_start, bound_of_table, seen_of_table, written}
 use Rattle.chain_search.proofs.table.coarse_rest.Goals as goal
 
 pub loop-back-init : goal.loop-back-init
@@ -45,7 +45,7 @@ loop-back-preserved g c =
 pub returns-clause-rest : goal.returns-clause-rest
 returns-clause-rest g c =
     let sink = c.sink_of-sink.ensures.sink in
-    rest_of_table g.R.Resource.extend g.R.Resource.done c.args.graph.now (g.C.Coarse.count c.args.coarse) (g.C.Coarse.shows c.args.coarse) (λ step. g.C.Coarse.moves (g.C.Coarse.move_of c.args.coarse step)) (g.C.Coarse.ends c.args.coarse) (g.C.Coarse.fits_step c.args.coarse) (g.C.Coarse.fits_end c.args.coarse) (g.met.C.Coarse.laws c.args.coarse) c.requires.follows
+    bound_of_table g.R.Resource.extend g.R.Resource.done c.args.graph.now (g.C.Coarse.count c.args.coarse) (g.C.Coarse.shows c.args.coarse) (g.C.Coarse.sees c.args.coarse) (λ step. g.C.Coarse.moves (g.C.Coarse.move_of c.args.coarse step)) (g.C.Coarse.ends c.args.coarse) (g.C.Coarse.fits_step c.args.coarse) (g.C.Coarse.fits_end c.args.coarse) (g.met.C.Coarse.laws c.args.coarse) c.requires.follows
     c.loop-back.table.items c.loop-back.back c.sink_of-sink.result sink (omega (arith, sink)) c.loop-back.invariant.filled
 
 pub returns-clause-attained : goal.returns-clause-attained
