@@ -15,11 +15,11 @@ use Rattle.roster_model.specs.Weights.{AreSmallWeights, IsSmallWeight, weight_at
 use Rattle.roster_model.proofs.Bounds.{ascending-length}
 use Rattle.line_lens.specs.LineGraphs.{StandsByArcs}
 
-abbrev IsWithin : ℕ → ℤ → Type 0
+abbrev pub IsWithin : ℕ → ℤ → Type 0
 IsWithin bound z = (neg_ℤ (pos bound) ≤ℤ z) × (z ≤ℤ pos bound)
 
 -- the weight of each pairing is small
-small_at : (weights : List ℤ) (p : ℕ) → AreSmallWeights weights → IsSmallWeight (weight_at weights p)
+pub small_at : (weights : List ℤ) (p : ℕ) → AreSmallWeights weights → IsSmallWeight (weight_at weights p)
 small_at weights p small =
     elim (cases_lt p (length weights)) [
       | inl lt ↦ small p (pos 0) lt
@@ -29,7 +29,7 @@ small_at weights p small =
 within_more : (n : ℕ) (a b : ℤ) → IsSmallWeight a → IsWithin (n * 2147483647) b → IsWithin (suc n * 2147483647) (a +ℤ b)
 within_more n a b s w = (omega (arith, ints, s.0, w.0), omega (arith, ints, s.1, w.1))
 
-weight_within : (weights : List ℤ) (line : List ℕ) → AreSmallWeights weights → IsWithin (length line * 2147483647) (weight_of weights line)
+pub weight_within : (weights : List ℤ) (line : List ℕ) → AreSmallWeights weights → IsWithin (length line * 2147483647) (weight_of weights line)
 unfolding weight_of
 weight_within weights [] small = (omega (arith, ints), omega (arith, ints))
 weight_within weights (p ∷ line) small =

@@ -1,36 +1,72 @@
--- The top of a climb is the greatest gain, or says that no chain is feasible.
-use Rattle.std.proofs.Common.{◌≡◌, subst, sym, ℕ, ℤ, ◌≤ℤ◌, Bool, List, Option, Some, None, arith}
+-- What climbs come to, one after the other; and the top of one from the lowest bound.
+use Rattle.std.proofs.Common.{◌≡◌, ◌≢◌, subst, sym, ℕ, ℤ, ◌≤ℤ◌, Bool, List, Option, Some, None, arith}
 use Rattle.std.specs.Prelude.{IfNone, IfSome}
 use Rattle.std.specs.Int.Signed.{◌<ℤ◌}
 use Rattle.std.proofs.lemmas.Int.{ints}
 use Rattle.label_setter.specs.Chains.{GraphOf, IsFeasible}
 use Rattle.label_setter.specs.declared.traces.Traced.{Traced}
 use Rattle.line_generator.specs.declared.climbing.Climb.{Climb}
-use Rattle.line_generator.specs.declared.climbing.Climb.TheVariants.{Top, Open}
-use Rattle.line_generator.specs.Climbs.{Climbs, IsClimbed, NoneAbove, merged, raised_to}
+use Rattle.line_generator.specs.declared.climbing.Ended.{Ended}
+use Rattle.line_generator.specs.declared.climbing.Ended.TheVariants.{Enough, Top}
+use Rattle.line_generator.specs.Climbs.{Climbs, IsAbove, NoneAbove, later, merged, raised_to}
 
-module _ {R S E : Type 0} (extend : R → S → Option R) (done : R → E → Bool) (graph : GraphOf R S E) (low : ℤ) where
-  pub top_greatest : (best : Option Traced) → NoneAbove extend done graph (raised_to best low)
+pub is_some : {X : Type 0} (x : X) → ◌≡◌ {A = Option X} (Some x) None → ⊥
+is_some x e = cc
+
+-- nothing was found where nothing was found before or after
+pub neither : (best found : Option Traced) → later best found ≡ None → (best ≡ None) × (found ≡ None)
+neither None None e = (cc, cc)
+neither (Some a) None e = absurd (is_some a e)
+neither best (Some b) e = absurd (is_some b e)
+
+module _ {R S E : Type 0} (extend : R → S → Option R) (done : R → E → Bool) (graph : GraphOf R S E) where
+  pub top_greatest : (low : ℤ) (best : Option Traced) → NoneAbove extend done graph (raised_to best low)
       → IfSome best (λ traced. NoneAbove extend done graph traced.gain)
-  top_greatest None top = cc
-  top_greatest (Some traced) top = top
+  top_greatest low None top = cc
+  top_greatest low (Some traced) top = top
 
-  pub top_none : (best : Option Traced) → NoneAbove extend done graph (raised_to best low)
+  pub top_none : (low : ℤ) (best : Option Traced) → NoneAbove extend done graph (raised_to best low)
       → ((chain : List ℕ) (gain : ℤ) → IsFeasible extend done graph chain gain → low <ℤ gain)
       → IfNone best ((chain : List ℕ) (gain : ℤ) → IsFeasible extend done graph chain gain → ⊥)
-  top_none None top heavy = λ chain gain is. let above = heavy chain gain is in let below = top chain gain is in omega (arith, ints, above, below)
-  top_none (Some traced) top heavy = cc
+  top_none low None top heavy = λ chain gain is. let above = heavy chain gain is in let below = top chain gain is in omega (arith, ints, above, below)
+  top_none low (Some traced) top heavy = cc
 
-  -- what was climbed from the best chain on was climbed from the lowest bound on
-  merged_climbs : (best : Option Traced) (climb : Climb) → IsClimbed extend done graph best
-      → Climbs extend done graph (raised_to best low) climb → Climbs extend done graph low (merged best climb)
-  merged_climbs best (Top (Some traced)) old new = new
-  merged_climbs best (Top None) old new = (old, new.1)
-  merged_climbs best (Open (Some traced)) old new = new
-  merged_climbs best (Open None) old new = old
+  pub found_attained : (low : ℤ) (best : Option Traced) → IfSome best (IsAbove extend done graph low) → IfSome best (λ traced. IsFeasible extend done graph traced.arcs traced.gain)
+  found_attained low None found = cc
+  found_attained low (Some traced) found = found.feasible
 
-  pub climbs_on : (best : Option Traced) (over : ℤ) (climb result : Climb) → IsClimbed extend done graph best
-      → over ≡ raised_to best low → Climbs extend done graph over climb → result ≡ merged best climb → Climbs extend done graph low result
-  climbs_on best over climb result old at new is =
-      subst (Climbs extend done graph low) (sym is)
-      (merged_climbs best climb old (subst (λ (z : ℤ). Climbs extend done graph z climb) at new))
+  higher : (low over gain : ℤ) → low ≤ℤ over → over <ℤ gain → low <ℤ gain
+  higher low over gain p q = omega (arith, ints, p, q)
+
+  no_less : (low over : ℤ) → over ≡ low → low ≤ℤ over
+  no_less low over e = omega (arith, ints)
+
+  less_through : (low over at : ℤ) → low <ℤ at → over ≡ at → low ≤ℤ over
+  less_through low over at p e = omega (arith, ints, p)
+
+  raised_above : (low over : ℤ) (best : Option Traced) → IfSome best (IsAbove extend done graph low) → over ≡ raised_to best low → low ≤ℤ over
+  raised_above low over None old at = no_less low over at
+  raised_above low over (Some traced) old at = less_through low over traced.gain old.above at
+
+  found_on : (low over : ℤ) (best found : Option Traced) → IfSome best (IsAbove extend done graph low) → over ≡ raised_to best low → IfSome found (IsAbove extend done graph over)
+      → IfSome (later best found) (IsAbove extend done graph low)
+  found_on low over best None old at new = old
+  found_on low over best (Some traced) old at new = record { feasible = new.feasible; above = higher low over traced.gain (raised_above low over best old at) new.above }
+
+  enough_on : (best found : Option Traced) → found ≢ None → later best found ≢ None
+  enough_on best None some = λ e. some cc
+  enough_on best (Some traced) some = λ e. is_some traced e
+
+  top_on : (low over : ℤ) (best found : Option Traced) → over ≡ raised_to best low → NoneAbove extend done graph (raised_to found over) → NoneAbove extend done graph (raised_to (later best found) low)
+  top_on low over best None at none = subst (λ (z : ℤ). NoneAbove extend done graph z) at none
+  top_on low over best (Some traced) at none = none
+
+  -- a climb from the best chain on is one from the bound on
+  pub climbs_on : (low over : ℤ) (best : Option Traced) (climb result : Climb) → IfSome best (IsAbove extend done graph low) → over ≡ raised_to best low
+      → Climbs extend done graph over climb → result ≡ merged best climb → Climbs extend done graph low result
+  climbs_on low over best climb result old at new is =
+      subst (Climbs extend done graph low) (sym is) (record {
+        found = found_on low over best climb.best old at new.found;
+        enough = λ e. enough_on best climb.best (new.enough e);
+        top = λ e. top_on low over best climb.best at (new.top e);
+      })

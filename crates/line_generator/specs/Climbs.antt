@@ -1,9 +1,10 @@
 -- What a climb over chains of more and more gain comes to.
-use Rattle.std.specs.Prelude.{◌≡◌, ◌≤ℤ◌, ℕ, ℤ, List, Option, Some, None, Bool, ⊤}
+use Rattle.std.specs.Prelude.{◌≡◌, ◌≢◌, ◌≤ℤ◌, ℕ, ℤ, List, Option, Some, None, Bool, IfSome}
+use Rattle.std.specs.Int.Signed.{◌<ℤ◌}
 use Rattle.label_setter.specs.Chains.{GraphOf, IsFeasible}
 use Rattle.label_setter.specs.declared.traces.Traced.{Traced}
 use Rattle.line_generator.specs.declared.climbing.Climb.{Climb}
-use Rattle.line_generator.specs.declared.climbing.Climb.TheVariants.{Top, Open}
+use Rattle.line_generator.specs.declared.climbing.Ended.TheVariants.{Enough, Top}
 
 -- no feasible chain gains more
 abbrev pub NoneAbove : {R S E : Type 0} → (R → S → Option R) → (R → E → Bool) → GraphOf R S E → ℤ → Type 0
@@ -14,14 +15,19 @@ abbrev pub raised_to : Option Traced → ℤ → ℤ
 raised_to (Some traced) over = traced.gain
 raised_to None over = over
 
--- the chain, where there is one, is feasible
-abbrev pub IsClimbed : {R S E : Type 0} → (R → S → Option R) → (R → E → Bool) → GraphOf R S E → Option Traced → Type 0
-IsClimbed extend done graph (Some traced) = IsFeasible extend done graph traced.arcs traced.gain
-IsClimbed extend done graph None = ⊤
+-- the chain is feasible and gains more than the bound
+pub record IsAbove {R S E : Type 0} (extend : R → S → Option R) (done : R → E → Bool) (graph : GraphOf R S E)
+    (over : ℤ) (traced : Traced) : Type 0 where
+  pub feasible : IsFeasible extend done graph traced.arcs traced.gain
+  pub above : over <ℤ traced.gain
 
-abbrev pub Climbs : {R S E : Type 0} → (R → S → Option R) → (R → E → Bool) → GraphOf R S E → ℤ → Climb → Type 0
-Climbs extend done graph over (Top best) = IsClimbed extend done graph best × NoneAbove extend done graph (raised_to best over)
-Climbs extend done graph over (Open best) = IsClimbed extend done graph best
+-- the chain, where there is one, is above the bound; there is one where the climb found enough; and at the
+-- top none is above it
+pub record Climbs {R S E : Type 0} (extend : R → S → Option R) (done : R → E → Bool) (graph : GraphOf R S E)
+    (over : ℤ) (climb : Climb) : Type 0 where
+  pub found : IfSome climb.best (IsAbove extend done graph over)
+  pub enough : climb.ended ≡ Enough → climb.best ≢ None
+  pub top : climb.ended ≡ Top → NoneAbove extend done graph (raised_to climb.best over)
 
 -- the chain that was found last
 abbrev pub later : Option Traced → Option Traced → Option Traced
@@ -30,5 +36,4 @@ later best None = best
 
 -- a climb that began at the gain of the best chain before it
 abbrev pub merged : Option Traced → Climb → Climb
-merged best (Top found) = Top (later best found)
-merged best (Open found) = Open (later best found)
+merged best climb = record { best = later best climb.best; ended = climb.ended }

@@ -24,7 +24,7 @@ use std::alloc::Global;
 use std::sync::ledger::Ledger;
 
 /// The graph of the lines that pass the lens. Its chains gain more than the lowest bound.
-fn lines_of<const N: usize>(
+pub(crate) fn lines_of<const N: usize>(
     alloc: Global,
     problem: &Problem,
     member: u32,

@@ -1,22 +1,23 @@
 //! Climbs by tables of what chains of a graph that passes and takes may still gain.
 
-ghost use Rattle.std.specs.Prelude.{◌≡◌, ◌<◌, ◌≤◌, ◌-◌, ◌^◌, ℕ, ℤ, List, Some, IfNone, IfOk, IfSome, length, neg_ℤ, pos, slice_get};
+ghost use Rattle.std.specs.Prelude.{◌≡◌, ◌+◌, ◌<◌, ◌≤◌, ◌^◌, ℕ, ℤ, List, Some, None, IfNone, IfOk, IfSome, neg_ℤ, pos, slice_get};
 ghost use Rattle.std.specs.Int.Signed.{◌<ℤ◌};
 ghost use Rattle.label_setter.specs.Chains.{IsFeasible};
 ghost use Rattle.label_setter.specs.declared.graph.Arc.{Arc};
-ghost use Rattle.label_setter.specs.declared.traces.Traced.{Traced as Way};
+ghost use Rattle.chain_search.specs.Bounds.{IsBound};
 ghost use Rattle.chain_search.specs.Leavings.{AreWays};
 ghost use Rattle.line_lens.specs.TakeLabels.{TakeStepOf, take_done, take_extend};
 ghost use Rattle.line_generator.specs.Climbs.{Climbs, NoneAbove, later, merged, raised_to};
 
-use crate::climbing::{Climb, climb_chains};
+use crate::climbing::{Climb, Ended, climb_chains};
 use crate::search::best_chain;
+use crate::telling::telling_bits;
 use chain_search::{
-    Bits, Coarse, Due, First, Room, Second, Ways, coarse_rest, follows, least_rest,
+    Bits, Coarse, Due, First, Room, Second, Ways, coarse_rest, follows, lasting_rest, least_rest,
 };
 use duty_calendar::Memory;
-use label_lattice::{MaskEnd, Resource, Steps};
-use label_setter::{Above, Graph, Traced};
+use label_lattice::{Resource, Steps};
+use label_setter::{Above, Graph, Rest, Traced};
 use line_lens::TakeLabel;
 use std::alloc::Global;
 use std::sync::ledger::Ledger;
@@ -24,60 +25,32 @@ use std::sync::ledger::Ledger;
 /// Less than any chain of a month gains, and more than what tables hold for chains that can't be.
 pub(crate) const LOWEST: i64 = -576_460_752_303_423_488;
 
-/// How many bits the table of a stage tells apart, and how many steps each of its searches has. Few serve most lines;
-/// a table of more takes longer to make.
-const STAGES: [(u32, u64); 3] = [(7, 2_000), (11, 20_000), (14, 1_000_000)];
+/// Tables tell credit apart by hours, whatever the lens rounds to.
+const HOUR: u32 = 60;
 
-/// The bits of the greatest weights, so many of them.
-fn heaviest_bits(end: &MaskEnd, count: u32) -> u64 {
-    let mut chosen = 0u64;
-    for _bit in 0..count {
-        chosen |= heaviest_bit(end, chosen);
-    }
-    chosen
-}
+/// How many bits the table of a stage tells apart, and how many steps each of its searches has at most. Few serve most
+/// lines; a table of more takes longer to make.
+const STAGES: [(u32, u64); 2] = [(7, 5_000), (11, 50_000)];
 
-/// The bit of the greatest weight that is not chosen, as a set; the empty set where all others weigh nothing.
-fn heaviest_bit(end: &MaskEnd, chosen: u64) -> u64 {
-    let mut bit = 0u64;
-    let mut most = 0;
-    for place in 0..64u32 {
-        let one = 1u64 << place;
-        let weight = end.weights[place as usize];
-        if chosen & one == 0 && most < weight {
-            most = weight;
-            bit = one;
-        }
-    }
-    bit
-}
+/// The bits of the last stage, whose searches have all steps that are left.
+const LAST_BITS: u32 = 14;
 
-/// A unit of credit of which the steps of the graph are whole multiples.
-fn unit_of<const N: usize>(graph: &Graph<TakeLabel<N>>, cap: u32) -> u32 {
-    let low = graph.end().0.low;
-    for unit in [60, 30, 15, 5] {
-        let room = First {
-            view: Room { cap, unit },
-        };
-        let due = First {
-            view: Due { low, unit },
-        };
-        if follows(graph, &room) && follows(graph, &due) {
-            return unit;
-        }
-    }
-    1
-}
+/// The steps of each search for a heaviest chain. Where they do not suffice, labels do.
+const MOST_STEPS: u64 = 1_000_000;
 
-/// A climb by the least of the bounds that three views give. It stays open where one of them does not follow the graph.
-fn climb_by_views<R, A, B, C, L>(
+/// So many chains, each of more gain than the one before, are found in one stage at most.
+const MOST_CHAINS: u32 = 500;
+
+/// A climb by the least of four bounds: by three views, and by one that is a bound of the graph. Where one of the views
+/// does not follow the graph, by that one alone.
+fn climb_by_views<R, A, B, C, D, L>(
     alloc: Global,
     graph: &Graph<R>,
     ways: &Ways,
-    first: A,
-    second: B,
-    third: C,
+    views: (A, B, C),
+    rest: D,
     over: i64,
+    chains: u32,
     limit: u64,
     steps: &mut Steps<L>,
 ) -> Result<Climb, Memory>
@@ -86,68 +59,88 @@ where
     A: Coarse<R> + Drop,
     B: Coarse<R> + Drop,
     C: Coarse<R> + Drop,
+    D: Rest<R> + Drop,
     L: Ledger,
     requires ways { AreWays graph.now.arcs graph.now.places ways.now }
+    requires rest { IsBound R.extend R.done graph.now (D.rest rest) }
+    requires some { 0 < chains }
     ensures climbs { IfOk result (Climbs R.extend R.done graph.now over) }
+    ensures limit { IfOk result (λ climb. climb.ended ≡ Ended.Limit → climb.best ≡ None → steps.new ≡ steps.old + limit) }
+    ensures once { chains ≡ 1 → steps.new ≤ steps.old + limit }
 {
-    if !follows(graph, &first) {
-        return Ok(Climb::Open(None));
-    }
-    if !follows(graph, &second) {
-        return Ok(Climb::Open(None));
-    }
-    if !follows(graph, &third) {
-        return Ok(Climb::Open(None));
+    let (first, second, third) = views;
+    if !follows(graph, &first) || !follows(graph, &second) || !follows(graph, &third) {
+        return climb_chains(
+            alloc,
+            graph,
+            ways,
+            Above { rest, over },
+            chains,
+            limit,
+            steps,
+        );
     }
     let first = coarse_rest(alloc, graph, ways, first)?;
     let second = coarse_rest(alloc, graph, ways, second)?;
     let third = coarse_rest(alloc, graph, ways, third)?;
     let both = least_rest(graph, first, second);
-    let rest = least_rest(graph, both, third);
-    climb_chains(alloc, graph, ways, Above { rest, over }, limit, steps)
+    let three = least_rest(graph, both, third);
+    let rest = least_rest(graph, three, rest);
+    climb_chains(
+        alloc,
+        graph,
+        ways,
+        Above { rest, over },
+        chains,
+        limit,
+        steps,
+    )
 }
 
-/// A climb by the credit that is left, the credit that is due, and bits of bids.
+/// A climb by the credit that is left, the credit that is due, so many bits of bids, and the bids that are lost.
 fn climb_by_tables<const N: usize, L: Ledger>(
     alloc: Global,
     graph: &Graph<TakeLabel<N>>,
     ways: &Ways,
     cap: u32,
-    over: i64,
     bits: u32,
+    over: i64,
+    chains: u32,
     limit: u64,
     steps: &mut Steps<L>,
 ) -> Result<Climb, Memory>
     requires ways { AreWays graph.now.arcs graph.now.places ways.now }
     requires narrow { N ≤ 16 }
+    requires some { 0 < chains }
     ensures climbs { IfOk result (Climbs take_extend take_done graph.now over) }
+    ensures limit { IfOk result (λ climb. climb.ended ≡ Ended.Limit → climb.best ≡ None → steps.new ≡ steps.old + limit) }
+    ensures once { chains ≡ 1 → steps.new ≤ steps.old + limit }
 {
-    let unit = unit_of::<N>(graph, cap);
     let end = graph.end();
+    let low = end.0.low;
     let room = First {
-        view: Room { cap, unit },
+        view: Room { cap, unit: HOUR },
     };
     let due = First {
-        view: Due {
-            low: end.0.low,
-            unit,
-        },
+        view: Due { low, unit: HOUR },
     };
-    let mask = &end.1.0;
-    let chosen = Bits::new(alloc, heaviest_bits(mask, bits), mask)?;
+    let chosen = telling_bits::<N>(graph.arcs(), &end.1.0, bits);
+    let view = Bits::new(alloc, chosen, &end.1.0)?;
     let bits = Second {
-        view: First { view: chosen },
+        view: First { view },
     };
-    climb_by_views(alloc, graph, ways, room, due, bits, over, limit, steps)
+    let rest = lasting_rest(alloc, graph, ways)?;
+    let views = (room, due, bits);
+    climb_by_views(alloc, graph, ways, views, rest, over, chains, limit, steps)
 }
 
-/// The gain of the chain, where there is one, else the lowest bound.
-fn bound_of(best: &Option<Traced>) -> i64
-    ensures bound { result ≡ raised_to best.now (neg_ℤ (pos (2 ^ 59))) }
+/// The gain of the chain, where there is one, else the bound.
+fn bound_of(best: &Option<Traced>, over: i64) -> i64
+    ensures bound { result ≡ raised_to best.now over }
 {
     match best {
         Some(traced) => traced.gain,
-        None => LOWEST,
+        None => over,
     }
 }
 
@@ -165,33 +158,49 @@ fn later(best: Option<Traced>, found: Option<Traced>) -> Option<Traced>
 fn merged(best: Option<Traced>, climb: Climb) -> Climb
     ensures merged { result ≡ merged best climb }
 {
-    match climb {
-        Climb::Top(found) => Climb::Top(later(best, found)),
-        Climb::Open(found) => Climb::Open(later(best, found)),
+    Climb {
+        best: later(best, climb.best),
+        ended: climb.ended,
     }
 }
 
-/// The heaviest chain, by stages, or that they did not suffice.
-fn climb_by_stages<const N: usize, L: Ledger>(
+/// A climb by stages, each with a table that tells more bits apart. A search has so many steps in all stages together.
+pub(crate) fn climb_by_stages<const N: usize, L: Ledger>(
     alloc: Global,
     graph: &Graph<TakeLabel<N>>,
     cap: u32,
+    over: i64,
+    chains: u32,
+    limit: u64,
     steps: &mut Steps<L>,
 ) -> Result<Climb, Memory>
     requires narrow { N ≤ 16 }
-    ensures climbs { IfOk result (Climbs take_extend take_done graph.now (neg_ℤ (pos (2 ^ 59)))) }
+    requires some { 0 < chains }
+    ensures climbs { IfOk result (Climbs take_extend take_done graph.now over) }
+    ensures limit { IfOk result (λ climb. climb.ended ≡ Ended.Limit → climb.best ≡ None → steps.new ≡ steps.old + limit) }
+    ensures once { chains ≡ 1 → steps.new ≤ steps.old + limit }
 {
     let ways = Ways::new(alloc, graph)?;
     let mut best: Option<Traced> = None;
-    for (bits, limit) in STAGES {
-        let over = bound_of(&best);
-        let climb = climb_by_tables::<N, L>(alloc, graph, &ways, cap, over, bits, limit, steps)?;
-        match merged(best, climb) {
-            Climb::Top(top) => return Ok(Climb::Top(top)),
-            Climb::Open(open) => best = open,
+    let mut left = limit;
+    for (bits, most) in STAGES {
+        let from = bound_of(&best, over);
+        let share = most.min(left);
+        let climb = climb_by_tables::<N, L>(
+            alloc, graph, &ways, cap, bits, from, chains, share, steps,
+        )?;
+        left -= share;
+        let climb = merged(best, climb);
+        if climb.ended != Ended::Limit || left == 0 {
+            return Ok(climb);
         }
+        best = climb.best;
     }
-    Ok(Climb::Open(best))
+    let from = bound_of(&best, over);
+    let climb = climb_by_tables::<N, L>(
+        alloc, graph, &ways, cap, LAST_BITS, from, chains, left, steps,
+    )?;
+    Ok(merged(best, climb))
 }
 
 /// The greatest gain of a feasible chain, with its arcs, or nothing where no chain is feasible. Where searches above
@@ -210,8 +219,9 @@ pub(crate) fn heaviest_chain<const N: usize, L: Ledger>(
     ensures greatest { IfOk result (λ answer. IfSome answer (λ traced. NoneAbove take_extend take_done graph.now traced.gain)) }
     ensures none { IfOk result (λ answer. IfNone answer ((chain : List ℕ) (gain : ℤ) → IsFeasible take_extend take_done graph.now chain gain → ⊥)) }
 {
-    match climb_by_stages::<N, L>(alloc, graph, cap, steps)? {
-        Climb::Top(best) => Ok(best),
-        Climb::Open(_) => best_chain::<N, L>(alloc, graph, cap, pairings, steps),
+    let climb = climb_by_stages::<N, L>(alloc, graph, cap, LOWEST, MOST_CHAINS, MOST_STEPS, steps)?;
+    if climb.ended == Ended::Top {
+        return Ok(climb.best);
     }
+    best_chain::<N, L>(alloc, graph, cap, pairings, steps)
 }

@@ -8,7 +8,7 @@ ghost use Rattle.roster_model.specs.Goals.{IsNode};
 ghost use Rattle.roster_model.specs.Valid.{IsBid};
 ghost use Rattle.roster_model.specs.Weights.{AreSmallWeights};
 
-use crate::{BestFault, PricedLine, best};
+use crate::{BestFault, Over, PricedLine, best, best_over, heaviest};
 use duty_calendar::{
     Base, Duty, Flown, Horizon, Leg, List, Member, Memory, Name, Pairing, Rules, Station,
 };
@@ -359,6 +359,64 @@ fn reaches_the_floor_of_a_member(rt: HostRuntime) -> Result<(), BestFault> {
             Err(BestFault::Lens(LensFault::Grain))
         )
     );
+    Ok(())
+}
+
+/// A line above the bound, and the heaviest line, through the first member's standard lens.
+fn over_from<L: Ledger>(
+    alloc: Global,
+    problem: &Problem,
+    weights: &[i64],
+    over: i64,
+    limit: u64,
+    blank: Blank,
+) -> Result<(Over, Option<PricedLine>), BestFault>
+    requires some { 0 < length problem.now.base.members }
+    requires per_pairing { length weights.now ≡ length problem.now.base.pairings }
+    requires small { AreSmallWeights weights.now }
+    requires name { blank.name ≡ L.name }
+    requires parts { blank.parts ≡ L.parts }
+    requires share { 0 < blank.parts }
+{
+    let goal = Goal {
+        floors: List::new(alloc),
+        grant: None,
+    };
+    let node = Node::new(alloc);
+    let lens = standard_lens(alloc, problem, 0);
+    let mut steps: Steps<L> = Steps::new(blank);
+    let found = best_over(
+        alloc, problem, 0, &goal, &node, &lens, weights, over, limit, &mut steps,
+    )?;
+    let most = heaviest(alloc, problem, 0, &goal, &node, &lens, weights, &mut steps)?;
+    Ok((found, most))
+}
+
+fn over_of(
+    alloc: Global,
+    problem: &Problem,
+    weights: &[i64],
+    over: i64,
+    limit: u64,
+) -> Result<(Over, Option<PricedLine>), BestFault>
+    requires some { 0 < length problem.now.base.members }
+    requires per_pairing { length weights.now ≡ length problem.now.base.pairings }
+    requires small { AreSmallWeights weights.now }
+{
+    over_from::<Brand>(alloc, problem, weights, over, limit, Blank::new(1))
+}
+
+#[test]
+fn finds_a_line_above_a_bound(rt: HostRuntime) -> Result<(), BestFault> {
+    let alloc = rt.alloc();
+    let problem = alone(alloc, tenth(alloc, 300)?, 0, 5400)?;
+    let (found, most) = over_of(alloc, &problem, &[5], 4, 100)?;
+    assert!(rt; matches!(found, Over::Line(PricedLine { weight: 5, .. })));
+    assert!(rt; is(&most, 5, &[0]));
+    let (found, _most) = over_of(alloc, &problem, &[5], 5, 0)?;
+    assert!(rt; found == Over::Nothing);
+    let (found, _most) = over_of(alloc, &problem, &[5], 4, 1)?;
+    assert!(rt; found == Over::Limit);
     Ok(())
 }
 

@@ -7,7 +7,7 @@ use Rattle.std.proofs.lemmas.Bool.{false≢true, cases_Bool}
 use Rattle.std.proofs.lemmas.Bool.Decides.{nat_tests}
 use Rattle.std.proofs.Math.Pow.{pow_mono}
 use Rattle.std.proofs.lemmas.List.{get_or_past}
-use Rattle.std.proofs.lemmas.Option.{slice_get_cases, slice_get_past, slice_get_within, get_or_from_slice_get}
+use Rattle.std.proofs.lemmas.Option.{slice_get-get_or, slice_get_cases, slice_get_past, slice_get_within, get_or_from_slice_get}
 use Rattle.label_lattice.specs.declared.masks.MaskStep.{MaskStep}
 use Rattle.label_lattice.specs.declared.spans.SpanStep.{SpanStep}
 use Rattle.label_lattice.specs.declared.counters.UsageStep.{UsageStep}
@@ -31,7 +31,7 @@ use Rattle.line_lens.specs.declared.chart.Place.{Place}
 use Rattle.line_lens.specs.declared.masks.Mark.{Mark}
 use Rattle.line_lens.specs.declared.masks.Mark.TheVariants.{Start, Clear, Set}
 use Rattle.line_lens.specs.BusyDays.{is_fixed_busy}
-use Rattle.line_lens.specs.Charts.{of_place, chart_sink, chart_may, chart_must, chart_near, chart_gain, time_event, time_events, chart_free, chart_days, chart_step, no_bids, IsPlace, IsChart, IsItemOrder}
+use Rattle.line_lens.specs.Charts.{of_place, chart_sink, chart_may, chart_must, chart_near, chart_gain, time_event, time_events, chart_free, chart_days, chart_step, no_bids, IsPlace, AreTimed, IsChart, IsItemOrder}
 use Rattle.line_lens.specs.Clear.{base_of, may_fly, must_fly}
 use Rattle.line_lens.specs.DutyTimes.{is_timed, AreTimes}
 use Rattle.line_lens.specs.FreeBlocks.{last_block, item_least}
@@ -251,8 +251,8 @@ module _ {N : ℕ} (problem : Problem) (member : ℕ) (node : List Decision) (le
   pub of_some : {A : Type 0} (f : Place N → A) (other : A) (j : ℕ) (place : Place N) → slice_get chart.places.items j ≡ Some place → of_place f other chart j ≡ f place
   of_some f other j place e = ap (λ (o : Option (Place N)). option_map_or f o other) e
 
-  free_same : (i j : ℕ) (a : PlacedAt i) (b : PlacedAt j) → chart_free chart i j ≡ free_step problem member lens adds i j
-  free_same i j a b = go lens.free30 refl
+  free_same : AreTimed problem member lens items chart.places.items → (i j : ℕ) (a : PlacedAt i) (b : PlacedAt j) → chart_free chart i j ≡ free_step problem member lens adds i j
+  free_same timed i j a b = go lens.free30 refl
     where
       step : LatestStep
       step = record { renew = last_block (time_events chart i) (of_place (λ p. p.begins) 0 chart i) (of_place (λ p. p.begins) 0 chart j); least = of_place (λ p. p.least) 0 chart j }
@@ -276,7 +276,7 @@ module _ {N : ℕ} (problem : Problem) (member : ℕ) (node : List Decision) (le
           → is_duty_minute (time_events chart i) m ≡ is_duty_minute (base_of problem member ++ item_events problem member lens (adds i)) m
       times_same on m le =
           ap (λ (ts : List Interval). is_duty_minute (map time_event ts) m) (of_some (λ p. p.times.items) [] i a.place a.here)
-          ∙ timed_events a.place.times.items m ∙ a.is_of.times on m (let at = of_some (λ p. p.begins) 0 i a.place a.here in omega arith)
+          ∙ timed_events a.place.times.items m ∙ timed i (adds i) a.place (slice_get-get_or items i (item_count problem member lens) (let lt = slice_get_within chart.places.items i a.place a.here in let l = is.are.long in omega arith)) a.here on m (let at = of_some (λ p. p.begins) 0 i a.place a.here in omega arith)
 
       build : (r s : Option ℕ) (x y : ℕ) → r ≡ s → x ≡ y → ◌≡◌ {A = LatestStep} (record { renew = r; least = x }) (record { renew = s; least = y })
       build r s x y p q = rw (p, q) refl
@@ -342,14 +342,14 @@ module _ {N : ℕ} (problem : Problem) (member : ℕ) (node : List Decision) (le
       go true on = chosen chart.days lens.days true is.looks_at_days on ∙ build _ _ _ _ (counted on) (is.most_days on) ∙ asked lens.days true on
       go false off = chosen chart.days lens.days false is.looks_at_days off ∙ asked lens.days false off
 
-  pub step_same_at : (i j : ℕ) → i < item_count problem member lens + 2 → j < item_count problem member lens + 2 → chart_step chart i j ≡ label_step {N = N} problem member lens adds clears sets i j
-  step_same_at i j first inside =
+  pub step_same_at : AreTimed problem member lens items chart.places.items → (i j : ℕ) → i < item_count problem member lens + 2 → j < item_count problem member lens + 2 → chart_step chart i j ≡ label_step {N = N} problem member lens adds clears sets i j
+  step_same_at timed i j first inside =
       let a = placed_at i first in
       let b = placed_at j inside in
       whole _ _ _ _ _ _ _ _ _ _
       (credit _ _ _ _ _ _ (of_some (λ p. p.down) 0 j b.place b.here ∙ b.is_of.down) (of_some (λ p. p.up) 0 j b.place b.here ∙ b.is_of.up) is.most_credit)
       (of_some (λ p. p.bids) no_bids j b.place b.here ∙ bids b.place _ _ (sym (of_some (λ p. p.bids.clear) 0 j b.place b.here)) (sym (of_some (λ p. p.bids.set) 0 j b.place b.here)))
-      (free_same i j a b)
+      (free_same timed i j a b)
       (days_same i j a b)
       (usage _ _ _ _ (of_some (λ p. p.amounts) (spread N (λ w. 0) []) j b.place b.here ∙ b.is_of.amounts) is.limits)
     where
@@ -366,18 +366,18 @@ module _ {N : ℕ} (problem : Problem) (member : ℕ) (node : List Decision) (le
       usage : (a b c d : List ℕ) → a ≡ b → c ≡ d → ◌≡◌ {A = UsageStep N} (record { amounts = a; caps = c }) (record { amounts = b; caps = d })
       usage a b c d p q = rw (p, q) refl
 
-  pub step_same : (i j : ℕ) → i < j → j < item_count problem member lens + 2 → chart_step chart i j ≡ label_step {N = N} problem member lens adds clears sets i j
-  step_same i j lt inside = step_same_at i j (omega arith) inside
+  pub step_same : AreTimed problem member lens items chart.places.items → (i j : ℕ) → i < j → j < item_count problem member lens + 2 → chart_step chart i j ≡ label_step {N = N} problem member lens adds clears sets i j
+  step_same timed i j lt inside = step_same_at timed i j (omega arith) inside
 
   -- arcs between the places of the chart are those of the line graph
-  pub arcs_same : (arcs : List (Arc (StepOf N))) → AreArcs (joins_by (chart_may chart) (chart_must chart) (chart_near chart)) (chart_gain chart) (chart_step chart) arcs
+  pub arcs_same : AreTimed problem member lens items chart.places.items → (arcs : List (Arc (StepOf N))) → AreArcs (joins_by (chart_may chart) (chart_must chart) (chart_near chart)) (chart_gain chart) (chart_step chart) arcs
       → AreArcs (joined_places problem member node lens (is_base_open problem member lens) adds (item_count problem member lens + 1)) (λ i j. weight_at weights (adds j)) (label_step {N = N} problem member lens adds clears sets) arcs
-  arcs_same arcs are = record {
+  arcs_same timed arcs are = record {
     joined = λ number arc at. sym (joins_same arc.from arc.to) ∙ are.joined number arc at;
     gains = λ number arc at. are.gains number arc at ∙ gain_same arc.from arc.to;
     steps = λ number arc at.
         let one = joined_parts (chart_may chart) (chart_must chart) (chart_near chart) arc.from arc.to (are.joined number arc at) in
-        are.steps number arc at ∙ step_same arc.from arc.to one.later (within arc.to one.allowed);
+        are.steps number arc at ∙ step_same timed arc.from arc.to one.later (within arc.to one.allowed);
     listed = λ i j joined. are.listed i j (joins_same i j ∙ joined);
   }
     where

@@ -69,3 +69,5 @@ pub mod PauseChain
 pub mod DailyChain
 pub mod ChainPairs
 pub mod Ways
+pub mod Reserving
+pub mod Timing

@@ -176,9 +176,6 @@ pub record IsPlace {N : ℕ} (problem : Problem) (member : ℕ) (node : List Dec
   pub sets : IsMask problem member lens (Set item) place.bids.set
   pub gain : place.gain ≡ weight_at weights item
   pub least : lens.free30 ≡ true → place.least ≡ item_least problem member lens item
-  pub times :
-      lens.free30 ≡ true
-      → AreTimes (base_of problem member ++ item_events problem member lens item) place.begins place.times.items
   pub own : lens.free30 ≡ true → place.own ≡ own_block problem member lens item
   pub free : lens.free30 ≡ true → place.free ≡ base_block problem member lens item
   pub touched :
@@ -192,6 +189,12 @@ pub record ArePlaces {N : ℕ} (problem : Problem) (member : ℕ) (node : List D
   pub each :
       (k item : ℕ) (place : Place N) → slice_get items k ≡ Some item → slice_get places k ≡ Some place
       → IsPlace problem member node lens weights item place
+
+-- the times that places hold are those of their items
+abbrev pub AreTimed : {N : ℕ} → Problem → ℕ → Lens → List ℕ → List (Place N) → Type 0
+AreTimed {N} problem member lens items places =
+    (k item : ℕ) (place : Place N) → slice_get items k ≡ Some item → slice_get places k ≡ Some place → lens.free30 ≡ true
+    → AreTimes (base_of problem member ++ item_events problem member lens item) place.begins place.times.items
 
 -- source, all items in the order in which they begin, and sink
 pub record IsItemOrder (problem : Problem) (member : ℕ) (lens : Lens) (items : List ℕ) : Type 0 where

@@ -16,3 +16,5 @@ pub mod Passes
 pub mod Takes
 pub mod Loose
 pub mod TakeLabels
+pub mod ChartRooms
+pub mod TakeRooms

@@ -11,7 +11,7 @@ ghost use Rattle.line_lens.specs.LineLabels.{label_done, label_extend};
 ghost use Rattle.line_lens.specs.Passes.{is_stop, passes, stops_on};
 
 use crate::chart::Chart;
-use crate::charting::{chart_of, items_of};
+use crate::charting::{ChartDesk, fill_timed};
 use crate::graph::LineLabel;
 use crate::labels::{end_label, start_label};
 use crate::roads::Roads;
@@ -125,9 +125,16 @@ pub fn lens_line(
 {
     let pairings = problem.base.pairings.len();
     let weights = no_weights(alloc, pairings)?;
-    let items = items_of(alloc, problem, member, lens)?;
-    let chart = chart_of::<WINDOWS>(alloc, problem, member, node, lens, &weights, &items)?;
+    let mut desk = ChartDesk::<WINDOWS>::bare(alloc);
+    fill_timed::<WINDOWS>(alloc, &mut desk, problem, member, node, lens, &weights)?;
     let start = start_label(problem, member, lens);
     let end = end_label(problem, member, goal, lens);
-    Ok(walks(&chart, &items, line.pairings(), pairings, start, end))
+    Ok(walks(
+        &desk.chart,
+        &desk.items,
+        line.pairings(),
+        pairings,
+        start,
+        end,
+    ))
 }

@@ -8,8 +8,8 @@ ghost use Rattle.line_lens.specs.LineGraphs.{StandsForLines};
 ghost use Rattle.line_lens.specs.LineLabels.{label_below, label_done, label_extend};
 ghost use Rattle.roster_model.specs.Weights.{AreSmallWeights};
 
-use crate::charting::{chart_of, items_of};
-use crate::labels::{adds_of, end_label, start_label};
+use crate::charting::{ChartDesk, fill_timed};
+use crate::labels::{end_label, fill_adds, start_label};
 use crate::roads::join_places;
 use duty_calendar::{List, Memory};
 use label_lattice::{Latest, Least, Mask, Pair, Span, Usage};
@@ -59,12 +59,16 @@ pub fn line_graph<const N: usize>(
     ensures few { IfOk result (λ g. IsStandardLens problem.now member lens.now → length g.graph.arcs ≤ (length problem.now.base.pairings + 1) * (length problem.now.base.pairings + 1)) }
     ensures labels { IfOk result (λ g. IsStandardLens problem.now member lens.now → FewApart label_below label_extend g.graph.start g.graph.arcs (256 * (length problem.now.base.pairings + 1) * (high_of problem.now member / 60 + 1))) }
 {
-    let items = items_of(alloc, problem, member, lens)?;
-    let chart = chart_of::<N>(alloc, problem, member, node, lens, weights, &items)?;
+    let mut desk = ChartDesk::<N>::bare(alloc);
+    fill_timed::<N>(alloc, &mut desk, problem, member, node, lens, weights)?;
     let start = start_label(problem, member, lens);
     let end = end_label(problem, member, goal, lens);
-    let mut graph = Graph::new(alloc, chart.places.len() as u32, start, end)?;
-    join_places(&mut graph, &chart)?;
-    let places = adds_of(alloc, &items, problem.base.pairings.len() as u32)?;
-    Ok(LineGraph { graph, places })
+    let mut graph = Graph::new(alloc, desk.chart.places.len() as u32, start, end)?;
+    join_places(&mut graph, &desk.chart)?;
+    let mut places = Vec::new(alloc);
+    fill_adds(&mut places, &desk.items, problem.base.pairings.len() as u32)?;
+    Ok(LineGraph {
+        graph,
+        places: List::from_vec(places),
+    })
 }

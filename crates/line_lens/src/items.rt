@@ -1,19 +1,21 @@
 //! The fixed flights that each chain of a line graph visits beside pairings, and whether any line can pass.
-ghost use Rattle.std.specs.Prelude.{◌≡◌, ◌<◌, ◌++◌, ◌||◌, not, nat_le, IfOk, OnOk, filter, length, map};
+ghost use Rattle.std.specs.Prelude.{◌≡◌, ◌+◌, ◌<◌, ◌≤◌, ◌++◌, ◌||◌, not, nat_le, IsErr, OnOk, filter, length, map, vec_capacity};
 ghost use Rattle.duty_calendar.specs.Calendar.{month_days};
 ghost use Rattle.duty_calendar.specs.Minutes.{is_flight};
 ghost use Rattle.roster_model.specs.Spans.{event_span};
+ghost use Rattle.roster_model.specs.Timelines.{fixed_of};
 ghost use Rattle.line_lens.specs.Items.{visited_flights, is_base_open};
 
 use crate::clear::is_base_rested;
 use crate::member::{event_span, fixed_of};
 use duty_calendar::{Event, Interval, Kind, Memory};
 use roster_model::{Lens, Problem};
-use std::alloc::Global;
 
 /// Appends the spans of the events that are flights.
 fn push_flights(out: &mut Vec<Interval>, events: &[Event]) -> Result<(), Memory>
     ensures more { OnOk result (out.new.items ≡ out.old.items ++ map event_span (filter (λ e. is_flight e.kind) events.now)) }
+    ensures capacity { vec_capacity out.old ≤ vec_capacity out.new }
+    ensures calm { length out.old.items + length events.now ≤ vec_capacity out.old → IsErr result → ⊥ }
 {
     for event in events {
         if event.kind == Kind::Flight {
@@ -23,22 +25,24 @@ fn push_flights(out: &mut Vec<Interval>, events: &[Event]) -> Result<(), Memory>
     Ok(())
 }
 
-/// The spans of the fixed flights that each chain visits, in their order: none where the lens doesn't look at free
+/// Lists the spans of the fixed flights that each chain visits, in their order: none where the lens doesn't look at free
 /// blocks. The flight of place k is the item that comes k behind the pairings.
-pub(crate) fn flight_spans(
-    alloc: Global,
+pub(crate) fn fill_flights(
+    spans: &mut Vec<Interval>,
     problem: &Problem,
     member: u32,
     lens: &Lens,
-) -> Result<Vec<Interval>, Memory>
+) -> Result<(), Memory>
     requires member { member < length problem.now.base.members }
-    ensures spans { IfOk result (λ spans. spans.items ≡ map event_span (visited_flights problem.now member lens.now)) }
+    ensures spans { OnOk result (spans.new.items ≡ map event_span (visited_flights problem.now member lens.now)) }
+    ensures capacity { vec_capacity spans.old ≤ vec_capacity spans.new }
+    ensures calm { length (fixed_of problem.now member) ≤ vec_capacity spans.old → IsErr result → ⊥ }
 {
-    let mut spans = Vec::new(alloc);
+    spans.clear();
     if lens.free30 {
-        push_flights(&mut spans, fixed_of(problem, member))?;
+        push_flights(spans, fixed_of(problem, member))?;
     }
-    Ok(spans)
+    Ok(())
 }
 
 /// Whether the month has as many days as are to be off, where the lens looks at days.

@@ -1,5 +1,5 @@
 //! A lens that tracks no more than the goal asks.
-ghost use Rattle.std.specs.Prelude.{◌≡◌, ◌≤◌, ◌<◌, ◌↔◌, ◌⊎◌, ℕ, IfOk, List, length, true, false, slice_get, if◌then◌else◌};
+ghost use Rattle.std.specs.Prelude.{◌≡◌, ◌≤◌, ◌<◌, ◌↔◌, ◌⊎◌, [], ℕ, IfOk, List, length, true, false, slice_get, if◌then◌else◌};
 ghost use Rattle.std.specs.Option.{ForSome};
 ghost use Rattle.roster_model.specs.declared.node.Decision.{Decision};
 ghost use Rattle.roster_model.specs.Goals.{IsGoal};
@@ -117,4 +117,25 @@ pub fn narrow_lens(
         days: lens.days,
         windows,
     })
+}
+
+/// As `narrow_lens`, of a lens without windows. It takes no memory.
+pub fn narrow_plain(alloc: Global, problem: &Problem, member: u32, goal: &Goal, lens: &Lens) -> Lens
+    requires member_in_range { member < length problem.now.base.members }
+    requires goal { IsGoal problem.now goal.now }
+    requires windows { lens.now.windows ≡ [] }
+    ensures same { (node : List Decision) (line : List ℕ) → IsLensLine problem.now member goal.now node lens.now line ↔ IsLensLine problem.now member goal.now node result line }
+    ensures untracked { AsksNothing problem.now member goal.now lens.now → result.tracked ≡ 0 }
+    ensures shape { IsLens problem.now member lens.now → IsLens problem.now member result }
+    ensures hour { IsHourLens lens.now → IsHourLens result }
+    ensures free30 { result.free30 ≡ lens.now.free30 }
+    ensures windows { result.windows ≡ [] }
+{
+    Lens {
+        grain: lens.grain,
+        tracked: asked_bids(problem, member, goal, lens),
+        free30: lens.free30,
+        days: lens.days,
+        windows: List::new(alloc),
+    }
 }

@@ -5,7 +5,7 @@ use Rattle.line_lens.specs.TakeLabels.{take_done, take_extend}
 use Rattle.line_generator.specs.Climbs.{Climbs}
 use Rattle.line_generator.proofs.stages.climb_by_tables.Goals as goal
 
-pub returns : goal.returns
-returns g c =
+pub returns-clause-climbs : goal.returns-clause-climbs
+returns-clause-climbs g c =
     let range : FitsSigned w64 c.args.over = search rules in
-    record { climbs = subst (λ (z : ℤ). IfOk c.climb_by_views.result (Climbs (take_extend {N = g.row.N}) (take_done {N = g.row.N}) c.args.graph.now z)) (to_z-of_z w64 c.args.over range) c.climb_by_views.ensures.climbs }
+    subst (λ (z : ℤ). IfOk c.climb_by_views.result (Climbs (take_extend {N = g.row.N}) (take_done {N = g.row.N}) c.args.graph.now z)) (to_z-of_z w64 c.args.over range) c.climb_by_views.ensures.climbs
