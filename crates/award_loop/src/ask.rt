@@ -62,13 +62,34 @@ pub(crate) fn ask<C: Closer>(
     search(alloc, problem, closer, &goal, ledger)
 }
 
-/// A floor between a score that is reached and a floor that is not: the one in the middle, so that few are tried.
-pub(crate) fn next_floor(score: u32, refuted: u32) -> u32
+/// The floor nearest to this one between a score that is reached and a floor that is not.
+fn between(floor: u32, score: u32, refuted: u32) -> u32
     requires apart { score + 1 < refuted }
     ensures above { score < result }
     ensures below { result < refuted }
 {
-    score + (refuted - score) / 2
+    floor.max(score + 1).min(refuted - 1)
+}
+
+/// The floor to be tried next, between a score that is reached and a floor that is not.
+pub(crate) fn next_floor<C: Closer>(
+    alloc: Global,
+    problem: &Problem,
+    closer: &mut C,
+    before: &[u32],
+    score: u32,
+    refuted: u32,
+) -> Result<u32, Memory>
+    requires fits { C.fits closer.old problem.now }
+    requires place { length before.now < length problem.now.base.members }
+    requires apart { score + 1 < refuted }
+    ensures above { IfOk result (λ floor. score < floor) }
+    ensures below { IfOk result (λ floor. floor < refuted) }
+    ensures rounds { C.rounds closer.new ≡ C.rounds closer.old }
+    ensures fits { (other : Problem) → C.fits closer.new other ↔ C.fits closer.old other }
+{
+    let guess = closer.next_floor(alloc, problem, before, score, refuted)?;
+    Ok(between(guess, score, refuted))
 }
 
 fn total(bids: &[Bid]) -> u32

@@ -49,7 +49,7 @@ pub(crate) fn raise<C: Closer>(
     let mut refuted = bids_weight(problem, place) + 2;
     let mut proof: Proof = List::new(alloc);
     while score + 1 < refuted {
-        let floor = next_floor(score, refuted);
+        let floor = next_floor(alloc, problem, closer, before, score, refuted)?;
         match ask(alloc, problem, closer, ledger, before, floor)? {
             Finding::Found(better) => {
                 score = score_in(problem, &better, place);

@@ -1,11 +1,11 @@
 //! What closes nodes.
-ghost use Rattle.std.specs.Prelude.{◌≡◌, ◌↔◌, ℕ, IfOk};
+ghost use Rattle.std.specs.Prelude.{◌≡◌, ◌↔◌, ◌<◌, ℕ, IfOk, length};
 ghost use Rattle.roster_model.specs.declared.problem.Problem.{Problem};
-ghost use Rattle.roster_model.specs.Goals.{IsGoal, IsNode};
+ghost use Rattle.roster_model.specs.Goals.{IsBidOf, IsGoal, IsNode};
 ghost use Rattle.branch_log.specs.Honest.{IsHonest};
 
 use duty_calendar::Memory;
-use roster_model::{Goal, Item, Node, Problem, Roster};
+use roster_model::{BidRef, Goal, Item, Node, Problem, Roster};
 use std::alloc::Global;
 
 /// What a closer says of a node.
@@ -41,4 +41,49 @@ pub trait Closer {
         ensures rounds { rounds self.new ≡ rounds self.old }
         ensures fits { (other : Problem) → fits self.new other ↔ fits self.old other }
         ensures honest { IfOk result (IsHonest problem.now (rounds self.old) goal.now node.now) };
+
+    /// Which floor is to be tried next at the place behind these scores, above a score that is reached and below a floor
+    /// that is not: a guess, which who asks brings into that range. The one in the middle, if nothing better is known.
+    fn next_floor(
+        &mut self,
+        alloc: Global,
+        problem: &Problem,
+        before: &[u32],
+        score: u32,
+        refuted: u32,
+    ) -> Result<u32, Memory>
+        requires fits { fits self.old problem.now }
+        requires place { length before.now < length problem.now.base.members }
+        ensures rounds { rounds self.new ≡ rounds self.old }
+        ensures fits { (other : Problem) → fits self.new other ↔ fits self.old other }
+    {
+        let _ = alloc;
+        let _ = problem;
+        let _ = before;
+        Ok(score.saturating_add(refuted.saturating_sub(score) / 2))
+    }
+
+    /// Which place is to be asked next for a bid, at `low` or above it and below `high`: a guess, which who asks brings
+    /// into that range. The one in the middle, if nothing better is known.
+    fn next_place(
+        &mut self,
+        alloc: Global,
+        problem: &Problem,
+        scores: &[u32],
+        bid: BidRef,
+        low: u32,
+        high: u32,
+    ) -> Result<u32, Memory>
+        requires fits { fits self.old problem.now }
+        requires scores { length scores.now ≡ length problem.now.base.members }
+        requires bid { IsBidOf problem.now bid }
+        ensures rounds { rounds self.new ≡ rounds self.old }
+        ensures fits { (other : Problem) → fits self.new other ↔ fits self.old other }
+    {
+        let _ = alloc;
+        let _ = problem;
+        let _ = scores;
+        let _ = bid;
+        Ok(low.saturating_add(high.saturating_sub(low) / 2))
+    }
 }

@@ -1,5 +1,5 @@
 //! The pool.
-ghost use Rattle.std.specs.Prelude.{◌≡◌, ◌<◌, All, length, slice_get, option_copied, IfErr, IfOk, IfSome, OnErr, OnOk};
+ghost use Rattle.std.specs.Prelude.{◌≡◌, ◌<◌, All, IsTrue, length, slice_get, option_copied, IfErr, IfOk, IfSome, OnErr, OnOk};
 ghost use Rattle.roster_model.specs.Goals.{IsGoal, IsNode};
 ghost use Rattle.roster_model.specs.Weights.{AreSmallWeights};
 ghost use Rattle.column_pool.specs.Kept.{lines_of, no_lines, offered_to};
@@ -63,6 +63,23 @@ impl Pool {
         ensures back { IfErr result (λ given. given ≡ line) }
     {
         self.lines[member as usize].offer(line)
+    }
+
+    /// How many members there are.
+    pub fn len(&self) -> usize
+        ensures count { result ≡ length self.now.lines }
+    {
+        self.lines.len()
+    }
+
+    /// Whether the problem has as many members and pairings as the one that the pool was made for.
+    pub fn fits(&self, problem: &Problem) -> bool
+        ensures members { IsTrue result → length problem.now.base.members ≡ length self.now.lines }
+        ensures pairings { IsTrue result → length problem.now.base.pairings ≡ self.now.pairings }
+        ensures other { length problem.now.base.members ≡ length self.now.lines → length problem.now.base.pairings ≡ self.now.pairings → IsTrue result }
+    {
+        problem.base.members.len() == self.lines.len()
+            && problem.base.pairings.len() == self.pairings as usize
     }
 
     /// A kept line by its number among the member's, from 0.

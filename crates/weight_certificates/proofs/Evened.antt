@@ -13,7 +13,7 @@ use Rattle.roster_model.specs.declared.goal.Goal.{Goal}
 use Rattle.roster_model.specs.declared.node.Decision.{Decision}
 use Rattle.roster_model.specs.declared.proof.Lens.{Lens}
 use Rattle.roster_model.specs.Rosters.{line_at}
-use Rattle.roster_model.specs.Lenses.{HasNoLine, IsLensLine, IsOutweighed}
+use Rattle.roster_model.specs.Lenses.{AreLenses, HasNoLine, IsLensLine, IsOutweighed}
 use Rattle.roster_model.specs.Rounds.{IsRound, miss_of, missed}
 use Rattle.roster_model.specs.Weights.{AreSmallWeights, weight_at, weight_of, total}
 use Rattle.roster_model.proofs.Rounds.{missed-append, even-none, even-append, miss-weight}
@@ -41,7 +41,7 @@ small_weights weights within = λ k d lt.
 pub within_weights : (weights : List ℤ) → AreSmallWeights weights → AreWithin 2147483647 weights
 within_weights weights small = λ k lt. let here = small k (pos 0) lt in omega (arith, ints, here.0, here.1)
 
-get_or-replicate : (n p : ℕ) → get_or (replicate n (pos 0)) p (pos 0) ≡ pos 0
+pub get_or-replicate : (n p : ℕ) → get_or (replicate n (pos 0)) p (pos 0) ≡ pos 0
 get_or-replicate zero p = refl
 get_or-replicate (suc n) zero = refl
 get_or-replicate (suc n) (suc p) = get_or-replicate n p
@@ -52,11 +52,11 @@ total-map weights [] = refl
 total-map weights (line ∷ lines) = ap (λ (z : ℤ). weight_of weights line +ℤ z) (total-map weights lines)
 
 -- the lens of a member
-lens_of : (problem : Problem) (lenses : List Lens) (m : ℕ) → AreStandard problem lenses → m < length problem.base.members
+lens_of : (problem : Problem) (lenses : List Lens) (m : ℕ) → length lenses ≡ length problem.base.members → m < length problem.base.members
     → (lens : Lens) × (slice_get lenses m ≡ Some lens)
-lens_of problem lenses m standard lt = elim (slice_get_cases lenses m).1 [
+lens_of problem lenses m per_member lt = elim (slice_get_cases lenses m).1 [
   | inl found ↦ (found.0, found.2)
-  | inr past ↦ absurd (omega (arith, lt, past.0, standard.per_member))
+  | inr past ↦ absurd (omega (arith, lt, past.0, per_member))
 ]
 
 -- a row that was lent as a slice and written
@@ -112,16 +112,16 @@ module _ (problem : Problem) (goal : Goal) (node : List Decision) where
               ];
         })
 
-    module _ (round : List (List ℕ)) (standard : AreStandard problem lenses)
+    module _ (round : List (List ℕ)) (per_member : length lenses ≡ length problem.base.members)
         (heavy : AreHeaviest problem goal node weights lenses (length problem.base.members) round) where
       line_passes : (m : ℕ) → m < length problem.base.members
           → (lens : Lens) × (slice_get lenses m ≡ Some lens) × IsLensLine problem m goal node lens (line_at round m)
       line_passes m lt =
-          let own = lens_of problem lenses m standard lt in
+          let own = lens_of problem lenses m per_member lt in
           (own.0, own.1, (heavy.each m own.0 lt own.1).passes)
 
-      pub heaviest_is_round : IsRound problem goal node round
-      heaviest_is_round = record {
+      pub heaviest_is_round : AreStandard problem lenses → IsRound problem goal node round
+      heaviest_is_round standard = record {
         lines = heavy.lines;
         each =
             λ m lt.
@@ -136,21 +136,21 @@ module _ (problem : Problem) (goal : Goal) (node : List Decision) where
           subst (λ (l : List ℕ). All (λ p. p < length problem.base.pairings) l) (sym same) own.2.in_range
 
       -- heaviest lines that weigh less than what is needed
-      pub round_outweighed : (miss : List ℤ) (product : ℤ)
+      pub round_outweighed : AreLenses problem lenses → (miss : List ℤ) (product : ℤ)
           → ((p : ℕ) → p < length problem.base.pairings → weight_at miss p ≡ miss_of problem round p)
           → product ≡ rows.product_of weights miss
           → length weights ≡ length problem.base.pairings → AreSmallWeights weights → product <ℤ pos 0
           → IsOutweighed problem goal node weights lenses
-      round_outweighed miss product is product_is per_pairing small less =
+      round_outweighed shapes miss product is product_is weighted small less =
           let turned = product-comm (weight_at weights) (miss_of problem round) (length problem.base.pairings) in
           let weighed =
           miss-weight problem weights round heavy.lines (λ m lt. (line_passes m (omega (arith, lt, heavy.lines))).2.ascending)
           (λ m lt. (line_passes m (omega (arith, lt, heavy.lines))).2.in_range) in
           record {
-            per_pairing = per_pairing;
-            per_member = standard.per_member;
+            per_pairing = weighted;
+            per_member = per_member;
             small = small;
-            shapes = standard.shapes;
+            shapes = shapes;
             bests = map (weight_of weights) round;
             each = length-map round (weight_of weights) ∙ heavy.lines;
             best =
@@ -165,7 +165,7 @@ module _ (problem : Problem) (goal : Goal) (node : List Decision) where
                   attained = (line_at round m, here.passes, value);
                   most = λ line passes. omega (arith, ints, here.most line passes, value);
                 };
-            less = omega (arith, ints, product_is, product-misses weights miss round is per_pairing, turned, weighed, total-map weights round, less);
+            less = omega (arith, ints, product_is, product-misses weights miss round is weighted, turned, weighed, total-map weights round, less);
           }
 
   pub is_round_in_range : (round : List (List ℕ)) → IsRound problem goal node round → All (All (λ p. p < length problem.base.pairings)) round

@@ -4,6 +4,7 @@ pub mod Facts
 pub mod RowSums
 pub mod Shapes
 pub mod Evened
+pub mod Raised
 pub mod OpenOrWhole
 pub mod Months
 pub mod ColumnSteps

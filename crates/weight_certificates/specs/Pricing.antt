@@ -5,7 +5,7 @@ use Rattle.roster_model.specs.declared.goal.Goal.{Goal}
 use Rattle.roster_model.specs.declared.node.Decision.{Decision}
 use Rattle.roster_model.specs.declared.proof.Lens.{Lens}
 use Rattle.roster_model.specs.Rosters.{line_at}
-use Rattle.roster_model.specs.Lenses.{AreLenses, HasNoLine, IsLensLine, IsMostWeight, IsStandardLens}
+use Rattle.roster_model.specs.Lenses.{AreLenses, HasNoLine, IsLens, IsLensLine, IsMostWeight, IsStandardLens}
 use Rattle.roster_model.specs.Effort.{AreStandardLenses}
 use Rattle.roster_model.specs.Weights.{weight_of}
 
@@ -31,3 +31,8 @@ pub record AreHeaviest (problem : Problem) (goal : Goal) (node : List Decision) 
 pub record IsWithoutLine (problem : Problem) (goal : Goal) (node : List Decision) (member : ℕ) : Type 0 where
   pub in_range : member < length problem.base.members
   pub none : (lens : Lens) → IsStandardLens problem member lens → HasNoLine problem member goal node lens
+
+-- the lens has its shape, and the line is a heaviest one
+pub record IsShapedHeaviest (problem : Problem) (member : ℕ) (goal : Goal) (node : List Decision) (lens : Lens) (weights : List ℤ) (line : List ℕ) : Type 0 where
+  pub shape : IsLens problem member lens
+  pub heaviest : IsHeaviestLine problem member goal node lens weights line

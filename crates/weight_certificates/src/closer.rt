@@ -4,29 +4,29 @@ ghost use Rattle.weight_certificates.specs.Setup.{IsMadeFor};
 
 use crate::closing::close_node;
 use branch_log::{Closer, Verdict};
-use column_pool::Pool;
-use duty_calendar::{List, Memory};
-use roster_model::{Goal, Node, Problem};
+use duty_calendar::Memory;
+use node_guesses::Guide;
+use roster_model::{BidRef, Goal, Node, Problem};
 use std::alloc::Global;
 use std::marker::Model;
 
-/// Closes nodes of a problem by rounds of heaviest lines. Keeps the lines that it finds, and the weights of its last
-/// leaf, which are tried first at the next node. Contracts see the number of rounds, and those of the members
-/// and pairings of the problems that it fits.
+/// Closes nodes of a problem by what its guide guesses, where that passes its test, and else by rounds of heaviest
+/// lines. Contracts see the number of rounds, and those of the members and pairings of the problems that it fits.
 #[derive(Drop)]
 pub struct Rounds {
     rounds: u32,
-    pool: Pool,
-    tried: List<i32>,
+    members: usize,
+    pairings: usize,
+    guide: Guide,
 }
 
 impl Model for Rounds {
-    ghost use Rattle.std.specs.Prelude.{◌≤◌, length};
+    ghost use Rattle.std.specs.Prelude.{◌≤◌};
     ghost use Rattle.weight_certificates.specs.Setup.{Setup};
 
     ghost Value = { Setup };
 
-    ghost view = { λ r. record { rounds = r.rounds; members = length r.pool.lines; pairings = r.pool.pairings } };
+    ghost view = { λ r. record { rounds = r.rounds; members = r.members; pairings = r.pairings } };
 
     ghost invariant = { λ r. (1 ≤ r.rounds) × (r.rounds ≤ 2000) };
 }
@@ -41,8 +41,9 @@ impl Rounds {
     {
         Ok(Rounds {
             rounds,
-            pool: Pool::new(alloc, problem)?,
-            tried: List::new(alloc),
+            members: problem.base.members.len(),
+            pairings: problem.base.pairings.len(),
+            guide: Guide::new(alloc, problem)?,
         })
     }
 }
@@ -59,14 +60,31 @@ impl Closer for Rounds {
         goal: &Goal,
         node: &Node,
     ) -> Result<Verdict, Memory> {
-        close_node(
-            alloc,
-            problem,
-            goal,
-            node,
-            self.rounds,
-            &mut self.pool,
-            &mut self.tried,
-        )
+        close_node(alloc, problem, goal, node, self.rounds, &mut self.guide)
+    }
+
+    fn next_floor(
+        &mut self,
+        alloc: Global,
+        problem: &Problem,
+        before: &[u32],
+        score: u32,
+        refuted: u32,
+    ) -> Result<u32, Memory> {
+        self.guide
+            .next_floor(alloc, problem, before, score, refuted)
+    }
+
+    fn next_place(
+        &mut self,
+        alloc: Global,
+        problem: &Problem,
+        scores: &[u32],
+        bid: BidRef,
+        low: u32,
+        high: u32,
+    ) -> Result<u32, Memory> {
+        self.guide
+            .next_place(alloc, problem, scores, bid, low, high)
     }
 }

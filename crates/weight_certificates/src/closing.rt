@@ -1,25 +1,25 @@
 //! Closing a node, or showing that it is open.
-ghost use Rattle.std.specs.Prelude.{◌≡◌, ◌≤◌, IfOk, OnOk, length};
+ghost use Rattle.std.specs.Prelude.{◌≤◌, IfOk, IfSome};
+ghost use Rattle.roster_model.specs.Closing.{IsAccepted};
 ghost use Rattle.roster_model.specs.Goals.{IsGoal, IsNode};
-ghost use Rattle.branch_log.specs.Honest.{IsHonest};
-ghost use Rattle.weight_certificates.specs.Columns.{AreColumns};
+ghost use Rattle.branch_log.specs.Honest.{IsHonest, IsWhole};
 ghost use Rattle.weight_certificates.specs.Leaves.{AreFitting, HaveCrews};
 ghost use Rattle.weight_certificates.specs.Pricing.{AreStandard};
 
 use crate::columns::Columns;
 use crate::crews::miscrewed;
 use crate::fixed::misfit;
-use crate::keeping::{keep_lines, keep_weights};
 use crate::lists::append;
 use crate::pairs::branch_pair;
+use crate::rosters::{is_whole, parts_of};
 use crate::rounds::{Evidence, price_rounds};
 use crate::shares::Shares;
-use crate::trials::{closing_weights, narrowed};
+use crate::trials::{is_lineless, is_outweighed, narrowed};
 use branch_log::Verdict;
-use column_pool::Pool;
 use duty_calendar::{List, Memory};
 use line_lens::standard_lens;
-use roster_model::{Goal, Item, Lens, Node, Problem};
+use node_guesses::{Bounded, Guess, Guide, Part};
+use roster_model::{Goal, Item, Lens, Node, Problem, Roster};
 use std::alloc::Global;
 
 /// The standard lens of each member.
@@ -33,15 +33,16 @@ fn standard_lenses(alloc: Global, problem: &Problem) -> Result<List<Lens>, Memor
     Ok(lenses)
 }
 
-/// What so many rounds by the standard lenses say of a node that neither crews nor decided lines close.
+/// What so many rounds by the standard lenses say of a node that neither crews nor decided lines close. The first lines
+/// are tried before any are priced.
 fn close_by_rounds(
     alloc: Global,
     problem: &Problem,
     goal: &Goal,
     node: &Node,
     count: u32,
-    lenses: List<Lens>,
-    columns: &mut Columns,
+    parts: &[Vec<Part>],
+    pair: Option<(u32, u32)>,
 ) -> Result<Verdict, Memory>
     requires goal { IsGoal problem.now goal.now }
     requires node { IsNode problem.now node.now }
@@ -49,11 +50,10 @@ fn close_by_rounds(
     requires few_rounds { count ≤ 2000 }
     requires crews { HaveCrews problem.now node.now }
     requires fitting { AreFitting problem.now goal.now node.now }
-    requires lenses { AreStandard problem.now lenses }
-    requires columns { AreColumns problem.now goal.now node.now columns.old }
     ensures honest { IfOk result (IsHonest problem.now count goal.now node.now) }
-    ensures columns { OnOk result (AreColumns problem.now goal.now node.now columns.new) }
 {
+    let lenses = standard_lenses(alloc, problem)?;
+    let mut columns = Columns::gather(alloc, problem, goal, node, lenses.as_slice(), parts)?;
     let mut shares = Shares::new(alloc, problem)?;
     let evidence = price_rounds(
         alloc,
@@ -62,7 +62,7 @@ fn close_by_rounds(
         node,
         lenses.as_slice(),
         count,
-        columns,
+        &mut columns,
         &mut shares,
     )?;
     let last = match evidence {
@@ -77,23 +77,100 @@ fn close_by_rounds(
         Evidence::Whole(round) => return Ok(Verdict::Whole(round)),
         Evidence::Even(last) => last,
     };
-    let preferred = shares.greatest(problem, node, count);
+    let preferred = if pair.is_some() {
+        pair
+    } else {
+        shares.greatest(problem, node, count)
+    };
     let Some((member, pairing)) = branch_pair(problem, node, preferred) else {
         return Ok(Verdict::Whole(last));
     };
     Ok(Verdict::Branch(member, pairing))
 }
 
-/// The same, where weights that are tried first may close it: those of an earlier leaf, and those of mixes of columns.
-fn close_by_weights(
+/// The leaf of the weights, where it closes the node.
+fn weights_leaf(
+    alloc: Global,
+    problem: &Problem,
+    goal: &Goal,
+    node: &Node,
+    bounded: Bounded,
+) -> Result<Option<Item>, Memory>
+    requires goal { IsGoal problem.now goal.now }
+    requires node { IsNode problem.now node.now }
+    ensures accepted { IfOk result (λ answer. IfSome answer (IsAccepted problem.now goal.now node.now)) }
+{
+    let lenses = bounded.lenses;
+    let is_closed = is_outweighed(
+        alloc,
+        problem,
+        goal,
+        node,
+        lenses.as_slice(),
+        &bounded.weights,
+        &bounded.bounds,
+    )?;
+    if !is_closed {
+        return Ok(None);
+    }
+    let weights = narrowed(alloc, &bounded.weights)?;
+    Ok(Some(Item::Weights(weights, lenses)))
+}
+
+/// The leaf of a member without a line, where it closes the node.
+fn lineless_leaf(
+    alloc: Global,
+    problem: &Problem,
+    goal: &Goal,
+    node: &Node,
+    member: u32,
+    lens: Lens,
+) -> Result<Option<Item>, Memory>
+    requires goal { IsGoal problem.now goal.now }
+    requires node { IsNode problem.now node.now }
+    ensures accepted { IfOk result (λ answer. IfSome answer (IsAccepted problem.now goal.now node.now)) }
+{
+    if is_lineless(alloc, problem, goal, node, member, &lens)? {
+        Ok(Some(Item::NoLine(member, lens)))
+    } else {
+        Ok(None)
+    }
+}
+
+/// The roster, where it is whole at the node.
+fn whole_roster(
+    alloc: Global,
+    problem: &Problem,
+    goal: &Goal,
+    node: &Node,
+    roster: &Roster,
+) -> Result<Option<Roster>, Memory>
+    requires goal { IsGoal problem.now goal.now }
+    requires node { IsNode problem.now node.now }
+    ensures whole { IfOk result (λ answer. IfSome answer (IsWhole problem.now goal.now node.now)) }
+{
+    let lenses = standard_lenses(alloc, problem)?;
+    let parts = parts_of(alloc, roster)?;
+    let columns = Columns::gather(alloc, problem, goal, node, lenses.as_slice(), &parts)?;
+    let Some(round) = columns.round(alloc, &[])? else {
+        return Ok(None);
+    };
+    if is_whole(alloc, problem, goal, node, &round)? {
+        Ok(Some(round))
+    } else {
+        Ok(None)
+    }
+}
+
+/// What there is to say of a node that neither crews nor decided lines close: what the guess says, if that passes its
+/// test, or else what rounds say.
+fn close_by_guess(
     alloc: Global,
     problem: &Problem,
     goal: &Goal,
     node: &Node,
     count: u32,
-    tried: &[i32],
-    columns: &mut Columns,
-    lenses: List<Lens>,
+    guess: Guess,
 ) -> Result<Verdict, Memory>
     requires goal { IsGoal problem.now goal.now }
     requires node { IsNode problem.now node.now }
@@ -101,46 +178,59 @@ fn close_by_weights(
     requires few_rounds { count ≤ 2000 }
     requires crews { HaveCrews problem.now node.now }
     requires fitting { AreFitting problem.now goal.now node.now }
-    requires lenses { AreStandard problem.now lenses }
-    requires columns { AreColumns problem.now goal.now node.now columns.old }
     ensures honest { IfOk result (IsHonest problem.now count goal.now node.now) }
-    ensures columns { OnOk result (AreColumns problem.now goal.now node.now columns.new) }
 {
-    let found = closing_weights(
-        alloc,
-        problem,
-        goal,
-        node,
-        lenses.as_slice(),
-        columns,
-        tried,
-    )?;
-    if let Some(weights) = found {
-        return Ok(Verdict::Closed(Item::Weights(weights, lenses)));
+    match guess {
+        Guess::Bounded(bounded) => {
+            if let Some(leaf) = weights_leaf(alloc, problem, goal, node, bounded)? {
+                return Ok(Verdict::Closed(leaf));
+            }
+        }
+        Guess::NoLine(member, lens) => {
+            if let Some(leaf) = lineless_leaf(alloc, problem, goal, node, member, lens)? {
+                return Ok(Verdict::Closed(leaf));
+            }
+        }
+        Guess::Whole(roster) => {
+            if let Some(roster) = whole_roster(alloc, problem, goal, node, &roster)? {
+                return Ok(Verdict::Whole(roster));
+            }
+        }
+        Guess::Mixed(mixed) => {
+            return close_by_rounds(alloc, problem, goal, node, count, &mixed.parts, mixed.pair);
+        }
+        Guess::Nothing => {}
     }
-    close_by_rounds(alloc, problem, goal, node, count, lenses, columns)
+    close_by_rounds(alloc, problem, goal, node, count, &[], None)
 }
 
-/// What there is to say of the node: a leaf that closes it, a whole roster, or that so many rounds show it open. Keeps
-/// the lines and the weights that it finds.
+/// Remembers the roster of a verdict.
+fn note(
+    alloc: Global,
+    problem: &Problem,
+    guide: &mut Guide,
+    verdict: &Verdict,
+) -> Result<(), Memory> {
+    if let Verdict::Whole(roster) = verdict {
+        guide.note(alloc, problem, roster)?;
+    }
+    Ok(())
+}
+
+/// What there is to say of the node: a leaf that closes it, a whole roster, or that so many rounds show it open.
 pub(crate) fn close_node(
     alloc: Global,
     problem: &Problem,
     goal: &Goal,
     node: &Node,
     count: u32,
-    pool: &mut Pool,
-    tried: &mut List<i32>,
+    guide: &mut Guide,
 ) -> Result<Verdict, Memory>
     requires goal { IsGoal problem.now goal.now }
     requires node { IsNode problem.now node.now }
     requires some_rounds { 1 ≤ count }
     requires few_rounds { count ≤ 2000 }
-    requires members { length problem.now.base.members ≡ length pool.old.lines }
-    requires pairings { length problem.now.base.pairings ≡ pool.old.pairings }
     ensures honest { IfOk result (IsHonest problem.now count goal.now node.now) }
-    ensures members { length pool.new.lines ≡ length pool.old.lines }
-    ensures pairings { pool.new.pairings ≡ pool.old.pairings }
 {
     if let Some(pairing) = miscrewed(problem, node) {
         return Ok(Verdict::Closed(Item::Count(pairing)));
@@ -148,19 +238,8 @@ pub(crate) fn close_node(
     if let Some(member) = misfit(alloc, problem, goal, node)? {
         return Ok(Verdict::Closed(Item::Fixed(member)));
     }
-    let lenses = standard_lenses(alloc, problem)?;
-    let mut columns = Columns::gather(alloc, problem, goal, node, lenses.as_slice(), pool)?;
-    let verdict = close_by_weights(
-        alloc,
-        problem,
-        goal,
-        node,
-        count,
-        tried.as_slice(),
-        &mut columns,
-        lenses,
-    )?;
-    keep_lines(alloc, pool, &columns)?;
-    keep_weights(alloc, tried, &verdict)?;
+    let guess = guide.guess(alloc, problem, goal, node)?;
+    let verdict = close_by_guess(alloc, problem, goal, node, count, guess)?;
+    note(alloc, problem, guide, &verdict)?;
     Ok(verdict)
 }

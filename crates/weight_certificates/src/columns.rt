@@ -10,15 +10,12 @@ ghost use Rattle.weight_certificates.specs.Columns.{AreColumns, lines_of};
 ghost use Rattle.weight_certificates.specs.Pricing.{AreStandard};
 
 use crate::lists::append;
-use column_pool::Pool;
 use duty_calendar::{Copied, List, Memory};
 use line_lens::lens_line;
+use node_guesses::{Part, are_known};
 use roster_model::{Goal, Lens, Line, Node, Problem, Roster};
 use std::alloc::Global;
 use std::marker::Model;
-
-/// How many kept lines of a member are looked at.
-const MOST_KEPT: u32 = 10_000;
 
 /// Lines of each member.
 #[derive(Drop)]
@@ -34,14 +31,14 @@ impl Model for Columns {
     ghost view = { λ c. c.lists };
 }
 
-/// The member's kept lines that pass the lens, which is the standard one.
+/// The member's lines that pass the lens, which is the standard one.
 fn passing(
     alloc: Global,
     problem: &Problem,
     goal: &Goal,
     node: &Node,
     lens: &Lens,
-    pool: &Pool,
+    parts: &[Part],
     member: u32,
 ) -> Result<List<Line>, Memory>
     requires goal { IsGoal problem.now goal.now }
@@ -49,21 +46,27 @@ fn passing(
     requires member { member < length problem.now.base.members }
     requires shape { IsLens problem.now member lens.now }
     requires standard { IsStandardLens problem.now member lens.now }
-    requires members { length problem.now.base.members ≡ length pool.now.lines }
-    requires pairings { length problem.now.base.pairings ≡ pool.now.pairings }
     ensures standard { IfOk result (All (IsStandardLine problem.now goal.now node.now member)) }
 {
     let mut lines = List::new(alloc);
-    for index in 0..MOST_KEPT {
-        let Some(line) = pool.get(member, index) else {
-            return Ok(lines);
-        };
-        if !lens_line(alloc, problem, member, goal, node, lens, line)? {
+    for part in parts {
+        if !are_known(problem, part.line.pairings()) {
             continue;
         }
-        append(&mut lines, line.copy(alloc)?)?;
+        if !lens_line(alloc, problem, member, goal, node, lens, &part.line)? {
+            continue;
+        }
+        append(&mut lines, part.line.copy(alloc)?)?;
     }
     Ok(lines)
+}
+
+/// The parts of a member.
+fn parts_of(parts: &[Vec<Part>], member: usize) -> &[Part] {
+    match parts.get(member) {
+        Some(parts) => parts,
+        None => &[],
+    }
 }
 
 /// The place of the heaviest of the lines. Sums that are too large stop at the ends of their range.
@@ -94,25 +97,24 @@ pub(crate) fn weigh(line: &Line, weights: &[i64]) -> i64 {
 }
 
 impl Columns {
-    /// The kept lines of all members that pass their lenses, which are the standard ones.
+    /// The lines of all members that pass their lenses, which are the standard ones.
     pub(crate) fn gather(
         alloc: Global,
         problem: &Problem,
         goal: &Goal,
         node: &Node,
         lenses: &[Lens],
-        pool: &Pool,
+        parts: &[Vec<Part>],
     ) -> Result<Columns, Memory>
         requires goal { IsGoal problem.now goal.now }
         requires node { IsNode problem.now node.now }
         requires lenses { AreStandard problem.now lenses.now }
-        requires members { length problem.now.base.members ≡ length pool.now.lines }
-        requires pairings { length problem.now.base.pairings ≡ pool.now.pairings }
         ensures columns { IfOk result (AreColumns problem.now goal.now node.now) }
     {
         let mut lists = List::new(alloc);
         for (member, lens) in lenses.iter().enumerate() {
-            let lines = passing(alloc, problem, goal, node, lens, pool, member as u32)?;
+            let own = parts_of(parts, member);
+            let lines = passing(alloc, problem, goal, node, lens, own, member as u32)?;
             append(&mut lists, lines)?;
         }
         Ok(Columns { lists })
@@ -124,22 +126,6 @@ impl Columns {
         ensures lines { result.now ≡ lines_of self.now member }
     {
         self.lists.as_slice()[member].as_slice()
-    }
-
-    /// How many members there are.
-    pub(crate) fn len(&self) -> usize
-        ensures count { result ≡ length self.now }
-    {
-        self.lists.len()
-    }
-
-    /// How many lines there are.
-    pub(crate) fn count(&self) -> usize {
-        let mut count: usize = 0;
-        for lines in self.lists.as_slice() {
-            count = count.saturating_add(lines.len());
-        }
-        count
     }
 
     /// A round of the heaviest lines, where each member has a line.

@@ -5,10 +5,25 @@ ghost use Rattle.roster_model.specs.Rounds.{IsRound};
 ghost use Rattle.branch_log.specs.Honest.{IsWhole};
 
 use crate::fixed::meets_goal;
-use duty_calendar::Memory;
+use duty_calendar::{Copied, Memory};
 use line_legality::{RosterFault, complete};
+use node_guesses::Part;
 use roster_model::{Goal, Node, Problem, Roster};
 use std::alloc::Global;
+
+/// The lines of a roster, each as the one part of its member.
+pub(crate) fn parts_of(alloc: Global, roster: &Roster) -> Result<Vec<Vec<Part>>, Memory> {
+    let mut parts = Vec::new(alloc);
+    for line in roster.as_slice() {
+        let mut own = Vec::new(alloc);
+        own.push(Part {
+            line: line.copy(alloc)?,
+            share: 1,
+        })?;
+        parts.push(own)?;
+    }
+    Ok(parts)
+}
 
 /// Whether each line of the round meets the goal.
 fn all_meet(problem: &Problem, goal: &Goal, node: &Node, round: &Roster) -> bool

@@ -285,7 +285,7 @@ fn two_cannot_fly_the_one_pairing(rt: HostRuntime) -> Result<(), Memory> {
     let floors = with(with(List::new(alloc), 10)?, 1)?;
     match verdict(alloc, &problem, floors)? {
         Verdict::Closed(Item::Weights(weights, lenses)) => {
-            assert!(rt; weights.as_slice() == [-1].as_slice());
+            assert!(rt; weights.as_slice().iter().all(|weight| *weight < 0));
             assert_eq!(rt; lenses.len(), 2);
         }
         _ => panic!(rt; "the pairing weighs too much"),
@@ -294,10 +294,10 @@ fn two_cannot_fly_the_one_pairing(rt: HostRuntime) -> Result<(), Memory> {
 }
 
 #[test]
-fn halves_leave_a_node_open(rt: HostRuntime) -> Result<(), Memory> {
+fn two_share_two_pairings(rt: HostRuntime) -> Result<(), Memory> {
     let alloc = rt.alloc();
     let problem = shared(alloc, 2, 1, 300, 300)?;
     let verdict = verdict(alloc, &problem, List::new(alloc))?;
-    assert!(rt; matches!(verdict, Verdict::Branch(0, 0)));
+    assert!(rt; matches!(verdict, Verdict::Whole(_)));
     Ok(())
 }

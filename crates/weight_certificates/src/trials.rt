@@ -1,20 +1,23 @@
-//! Weights that are tried before rounds are priced.
-ghost use Rattle.std.specs.Prelude.{◌≡◌, IfOk, IfSome, IsTrue, OnOk, length};
+//! Leaves that are tested: weights under which the lines fall short of the needs, and members without a line.
+ghost use Rattle.std.specs.Prelude.{◌≡◌, ◌<◌, ◌^◌, IfOk, IfSome, IsTrue, length};
+ghost use Rattle.roster_model.specs.Closing.{IsLineless};
 ghost use Rattle.roster_model.specs.Goals.{IsGoal, IsNode};
-ghost use Rattle.roster_model.specs.Lenses.{IsOutweighed};
+ghost use Rattle.roster_model.specs.Lenses.{AreLenses, IsLens, IsOutweighed};
 ghost use Rattle.roster_model.specs.Weights.{AreSmallWeights, IsSmallWeight};
-ghost use Rattle.weight_certificates.specs.Columns.{AreColumns};
-ghost use Rattle.weight_certificates.specs.Pricing.{AreStandard};
+ghost use Rattle.weight_certificates.specs.Pricing.{AreHeaviest, IsShapedHeaviest};
 
-use crate::columns::Columns;
-use crate::mixing::Mix;
-use crate::rounds::{Next, next_round};
+use crate::lists::append;
+use crate::rows::{product, set_miss};
 use duty_calendar::{List, Memory};
-use roster_model::{Goal, Lens, Node, Problem};
+use line_generator::{BestFault, Over};
+use node_guesses::{are_small, line_over};
+use roster_model::{Goal, Lens, Line, Node, Problem, Roster};
 use std::alloc::Global;
 
-/// How often mixes are made.
-const MOST_MIXES: u32 = 80;
+/// How many steps a search for a line may take.
+const MOST_STEPS: u64 = 2_000_000;
+/// How often a bound is raised to the weight of a line.
+const MOST_RAISES: u32 = 1_000;
 
 /// The weight in 32 bits.
 fn narrow(weight: i64) -> i32
@@ -36,110 +39,161 @@ pub(crate) fn narrowed(alloc: Global, weights: &[i64]) -> Result<List<i32>, Memo
     Ok(List::from_vec(list))
 }
 
-/// The weights in 64 bits each.
-fn widened(alloc: Global, weights: &[i32]) -> Result<Vec<i64>, Memory> {
-    let mut wide = Vec::new(alloc);
-    for weight in weights {
-        wide.push(i64::from(*weight))?;
-    }
-    Ok(wide)
-}
-
-/// Whether each weight is within its limit.
-fn are_small(weights: &[i64]) -> bool
-    ensures small { IsTrue result → AreSmallWeights weights.now }
-{
-    for weight in weights {
-        if *weight < -2_147_483_647 || *weight > 2_147_483_647 {
-            return false;
-        }
-    }
-    true
-}
-
-/// Whether the lines fall short of the needs under these weights.
-fn is_outweighed(
+/// The heaviest line that passes the lens, by raising a bound to the weights of lines that are found; none where none
+/// is above the first bound, or a search takes too many steps.
+fn raised_line(
     alloc: Global,
     problem: &Problem,
+    member: u32,
     goal: &Goal,
     node: &Node,
-    lenses: &[Lens],
-    columns: &mut Columns,
+    lens: &Lens,
     weights: &[i64],
-) -> Result<bool, Memory>
+    from: i64,
+) -> Result<Option<Line>, Memory>
+    requires member { member < length problem.now.base.members }
     requires goal { IsGoal problem.now goal.now }
     requires node { IsNode problem.now node.now }
-    requires lenses { AreStandard problem.now lenses.now }
-    requires columns { AreColumns problem.now goal.now node.now columns.old }
-    ensures outweighed { IfOk result (λ yes. IsTrue yes → IsOutweighed problem.now goal.now node.now weights.now lenses.now) }
-    ensures columns { OnOk result (AreColumns problem.now goal.now node.now columns.new) }
+    requires per_pairing { length weights.now ≡ length problem.now.base.pairings }
+    requires small { AreSmallWeights weights.now }
+    ensures heaviest { IfOk result (λ answer. IfSome answer (IsShapedHeaviest problem.now member goal.now node.now lens.now weights.now)) }
 {
-    let pairings = problem.base.pairings.len();
-    if weights.len() != pairings || !are_small(weights) {
-        return Ok(false);
+    if lens.windows.len() > 16 {
+        return Ok(None);
     }
-    let mut miss = vec![in alloc; 0i64; pairings]?;
-    let next = next_round(
-        alloc, problem, goal, node, lenses, columns, weights, &mut miss,
-    )?;
-    match next {
-        Next::Outweighed => Ok(true),
-        Next::NoLine(_member) => Ok(false),
-        Next::Round(_round) => Ok(false),
-    }
-}
-
-/// Weights of mixes of the columns under which the lines fall short of the needs.
-fn mixed_weights(
-    alloc: Global,
-    problem: &Problem,
-    goal: &Goal,
-    node: &Node,
-    lenses: &[Lens],
-    columns: &mut Columns,
-) -> Result<Option<List<i32>>, Memory>
-    requires goal { IsGoal problem.now goal.now }
-    requires node { IsNode problem.now node.now }
-    requires lenses { AreStandard problem.now lenses.now }
-    requires columns { AreColumns problem.now goal.now node.now columns.old }
-    ensures outweighed { IfOk result (λ found. IfSome found (λ weights. IsOutweighed problem.now goal.now node.now weights lenses.now)) }
-    ensures columns { OnOk result (AreColumns problem.now goal.now node.now columns.new) }
-{
-    let mut mix = Mix::new(alloc, problem, columns)?;
-    for _ in 0..MOST_MIXES {
-        mix.improve(columns)?;
-        let weights = mix.weights(alloc)?;
-        let before = columns.count();
-        if is_outweighed(alloc, problem, goal, node, lenses, columns, &weights)? {
-            return Ok(Some(narrowed(alloc, &weights)?));
-        }
-        if columns.count() == before {
-            return Ok(None);
+    let mut over = from;
+    let mut best: Option<Line> = None;
+    for _ in 0..MOST_RAISES {
+        match line_over(
+            alloc, problem, member, goal, node, lens, weights, over, MOST_STEPS,
+        ) {
+            Ok(Over::Line(priced)) => {
+                over = priced.weight;
+                best = Some(priced.line);
+            }
+            Ok(Over::Nothing) => return Ok(best),
+            Ok(Over::Limit) => return Ok(None),
+            Err(BestFault::NoMemory) => return Err(Memory::NoMemory),
+            Err(BestFault::Lens(_why)) => return Ok(None),
         }
     }
     Ok(None)
 }
 
-/// Weights under which the lines fall short of the needs: those that were tried, or those of mixes of the columns.
-pub(crate) fn closing_weights(
+/// A heaviest line of each member by its lens, each above a bound of its own.
+fn raised_round(
     alloc: Global,
     problem: &Problem,
     goal: &Goal,
     node: &Node,
     lenses: &[Lens],
-    columns: &mut Columns,
-    tried: &[i32],
-) -> Result<Option<List<i32>>, Memory>
+    weights: &[i64],
+    bounds: &[i64],
+) -> Result<Option<Roster>, Memory>
     requires goal { IsGoal problem.now goal.now }
     requires node { IsNode problem.now node.now }
-    requires lenses { AreStandard problem.now lenses.now }
-    requires columns { AreColumns problem.now goal.now node.now columns.old }
-    ensures outweighed { IfOk result (λ found. IfSome found (λ weights. IsOutweighed problem.now goal.now node.now weights lenses.now)) }
-    ensures columns { OnOk result (AreColumns problem.now goal.now node.now columns.new) }
+    requires per_member { length lenses.now ≡ length problem.now.base.members }
+    requires per_pairing { length weights.now ≡ length problem.now.base.pairings }
+    requires small { AreSmallWeights weights.now }
+    ensures heaviest { IfOk result (λ answer. IfSome answer (AreHeaviest problem.now goal.now node.now weights.now lenses.now (length problem.now.base.members))) }
+    ensures shapes { IfOk result (λ answer. IfSome answer (λ round. AreLenses problem.now lenses.now)) }
 {
-    let weights = widened(alloc, tried)?;
-    if is_outweighed(alloc, problem, goal, node, lenses, columns, &weights)? {
-        return Ok(Some(narrowed(alloc, &weights)?));
+    let mut round = List::new(alloc);
+    for (member, lens) in lenses.iter().enumerate() {
+        let from = match bounds.get(member) {
+            Some(bound) => *bound,
+            None => i64::MIN,
+        };
+        let member = member as u32;
+        let Some(line) = raised_line(alloc, problem, member, goal, node, lens, weights, from)?
+        else {
+            return Ok(None);
+        };
+        append(&mut round, line)?;
     }
-    mixed_weights(alloc, problem, goal, node, lenses, columns)
+    Ok(Some(round))
+}
+
+/// Whether heaviest lines weigh less than the needs. Sets a row to their miss.
+fn falls_short(
+    problem: &Problem,
+    goal: &Goal,
+    node: &Node,
+    lenses: &[Lens],
+    weights: &[i64],
+    round: &Roster,
+    miss: &mut [i64],
+) -> bool
+    requires per_member { length lenses.now ≡ length problem.now.base.members }
+    requires per_pairing { length weights.now ≡ length problem.now.base.pairings }
+    requires small { AreSmallWeights weights.now }
+    requires heaviest { AreHeaviest problem.now goal.now node.now weights.now lenses.now (length problem.now.base.members) round.now }
+    requires shapes { AreLenses problem.now lenses.now }
+    requires room { length miss.old ≡ length problem.now.base.pairings }
+    ensures outweighed { IsTrue result → IsOutweighed problem.now goal.now node.now weights.now lenses.now }
+{
+    let _ = goal;
+    let _ = node;
+    let _ = lenses;
+    set_miss(miss, problem, round.as_slice());
+    if product(weights, miss) >= 0 {
+        return false;
+    }
+    true
+}
+
+/// Whether the lines of the members, each by its lens, fall short of the needs under these weights. Each member has a
+/// line above its bound, if that is a good guess.
+pub(crate) fn is_outweighed(
+    alloc: Global,
+    problem: &Problem,
+    goal: &Goal,
+    node: &Node,
+    lenses: &[Lens],
+    weights: &[i64],
+    bounds: &[i64],
+) -> Result<bool, Memory>
+    requires goal { IsGoal problem.now goal.now }
+    requires node { IsNode problem.now node.now }
+    ensures outweighed { IfOk result (λ yes. IsTrue yes → IsOutweighed problem.now goal.now node.now weights.now lenses.now) }
+{
+    let pairings = problem.base.pairings.len();
+    if weights.len() != pairings || lenses.len() != problem.base.members.len() {
+        return Ok(false);
+    }
+    if !are_small(weights) {
+        return Ok(false);
+    }
+    let Some(round) = raised_round(alloc, problem, goal, node, lenses, weights, bounds)? else {
+        return Ok(false);
+    };
+    let mut miss = vec![in alloc; 0i64; pairings]?;
+    Ok(falls_short(problem, goal, node, lenses, weights, &round, &mut miss))
+}
+
+/// Whether no line of the member passes the lens.
+pub(crate) fn is_lineless(
+    alloc: Global,
+    problem: &Problem,
+    goal: &Goal,
+    node: &Node,
+    member: u32,
+    lens: &Lens,
+) -> Result<bool, Memory>
+    requires goal { IsGoal problem.now goal.now }
+    requires node { IsNode problem.now node.now }
+    ensures lineless { IfOk result (λ yes. IsTrue yes → IsLineless problem.now goal.now node.now member lens.now) }
+{
+    if member as usize >= problem.base.members.len() || lens.windows.len() > 16 {
+        return Ok(false);
+    }
+    let weights = vec![in alloc; 0i64; problem.base.pairings.len()]?;
+    match line_over(
+        alloc, problem, member, goal, node, lens, &weights, -1, MOST_STEPS,
+    ) {
+        Ok(Over::Nothing) => Ok(true),
+        Ok(Over::Line(_)) | Ok(Over::Limit) => Ok(false),
+        Err(BestFault::NoMemory) => Err(Memory::NoMemory),
+        Err(BestFault::Lens(_why)) => Ok(false),
+    }
 }

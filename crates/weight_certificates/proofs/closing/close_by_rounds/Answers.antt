@@ -12,7 +12,6 @@ returns-in_default c =
     let ended : HasLastRound c.args.problem.now c.args.goal.now c.args.node.now c.args.count c.in-Even.last = rw c.in-Even.is at c.in_ok-evidence.ensures.evidence in
     record {
       honest = whole_from_round c.args.problem.now c.args.goal.now c.args.node.now c.in-Even.last ended.round c.requires.crews c.requires.fitting c.in_default.ensures.pair;
-      columns = c.in_ok-evidence.ensures.columns;
     }
 
 pub returns : goal.returns
@@ -22,7 +21,6 @@ returns c =
       honest =
           branch_honest c.args.problem.now c.args.goal.now c.args.node.now c.args.count c.in-Some.member c.in-Some.pairing c.in-Even.last c.requires.crews c.requires.fitting
           ended c.in-Some.ensures.pair;
-      columns = c.in_ok-evidence.ensures.columns;
     }
 
 pub returns-in-NoLine : goal.returns-in-NoLine
@@ -35,16 +33,14 @@ returns-in-NoLine c =
         shape = c.standard_lens-lens.ensures.shape;
         none = none.none c.standard_lens-lens.result c.standard_lens-lens.ensures.standard;
       };
-      columns = c.in_ok-evidence.ensures.columns;
     }
 
 pub returns-in-Outweighed : goal.returns-in-Outweighed
 unfolding IsAccepted
 returns-in-Outweighed c =
-    let is : IsOutweighed c.args.problem.now c.args.goal.now c.args.node.now c.in-Outweighed.weights.items c.as_slice.result.now = rw c.in-Outweighed.is at c.in_ok-evidence.ensures.evidence in
+    let is : IsOutweighed c.args.problem.now c.args.goal.now c.args.node.now c.in-Outweighed.weights.items c.as_slice-2.result.now = rw c.in-Outweighed.is at c.in_ok-evidence.ensures.evidence in
     record {
       honest =
-          subst (λ (ys : List ℤ). IsOutweighed c.args.problem.now c.args.goal.now c.args.node.now ys c.args.lenses) (sym (c.in_ok-weights-in-Outweighed.ensures.same ∙ c.deref.ensures.value))
-          (subst (λ (ls : List Lens). IsOutweighed c.args.problem.now c.args.goal.now c.args.node.now c.in-Outweighed.weights.items ls) c.as_slice.ensures is);
-      columns = c.in_ok-evidence.ensures.columns;
+          subst (λ (ys : List ℤ). IsOutweighed c.args.problem.now c.args.goal.now c.args.node.now ys c.in_ok-lenses.lenses) (sym (c.in_ok-weights-in-Outweighed.ensures.same ∙ c.deref.ensures.value))
+          (subst (λ (ls : List Lens). IsOutweighed c.args.problem.now c.args.goal.now c.args.node.now c.in-Outweighed.weights.items ls) c.as_slice-2.ensures is);
     }

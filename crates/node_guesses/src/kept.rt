@@ -1,0 +1,273 @@
+//! Lines that are kept for each member, with what is known of each.
+ghost use Rattle.std.specs.Prelude.{◌≡◌, ◌<◌, All, IsTrue, length};
+ghost use Rattle.roster_model.specs.Scores.{bids_of};
+
+use crate::ladder::is_trackable;
+use crate::pairings::PairingSet;
+use bid_score::{granted, score};
+use column_pool::Pool;
+use duty_calendar::{Copied, Memory};
+use line_legality::{Illegal, legal};
+use roster_model::{Goal, Line, Problem};
+use std::alloc::Global;
+
+/// What is known of a kept line: its pairings, its bids that it grants and may grant, what these weigh, and whether it
+/// is legal. A line may grant what it grants, and each bid that a lens can't track.
+#[derive(Clone, Copy)]
+pub(crate) struct Profile {
+    pub pairings: PairingSet,
+    pub grants: u64,
+    pub may_grant: u64,
+    pub score: u32,
+    pub may_score: u32,
+    pub is_legal: bool,
+}
+
+/// The kept lines, which are found by member and number, and whose turn it was to be priced first.
+#[derive(Drop)]
+pub(crate) struct Kept {
+    pool: Pool,
+    profiles: Vec<Vec<Profile>>,
+    turn: usize,
+}
+
+/// The number in 32 bits, or the greatest where it does not fit.
+pub(crate) fn number(value: usize) -> u32 {
+    if value < 4_294_967_296 {
+        value as u32
+    } else {
+        u32::MAX
+    }
+}
+
+/// Whether the member is one of the problem.
+pub(crate) fn is_member(problem: &Problem, member: u32) -> bool
+    ensures member { IsTrue result → member < length problem.now.base.members }
+{
+    (member as usize) < problem.base.members.len()
+}
+
+/// Whether all pairings of the line are of the problem.
+pub fn are_known(problem: &Problem, line: &[u32]) -> bool
+    ensures known { IsTrue result → All (λ p. p < length problem.now.base.pairings) line.now }
+{
+    let count = problem.base.pairings.len();
+    line.iter().all(|pairing| (*pairing as usize) < count)
+}
+
+/// Whether the line is legal for the member.
+fn is_legal(alloc: Global, problem: &Problem, member: u32, line: &Line) -> Result<bool, Memory> {
+    Ok(broken(alloc, problem, member, line)?.is_none())
+}
+
+/// The rule that the line breaks, if any.
+pub(crate) fn broken(
+    alloc: Global,
+    problem: &Problem,
+    member: u32,
+    line: &Line,
+) -> Result<Option<Illegal>, Memory> {
+    if !is_member(problem, member) || !are_known(problem, line.pairings()) {
+        return Ok(Some(Illegal::Overlap(0)));
+    }
+    match legal(alloc, problem, member, line) {
+        Ok(()) => Ok(None),
+        Err(Illegal::NoMemory) => Err(Memory::NoMemory),
+        Err(why) => Ok(Some(why)),
+    }
+}
+
+/// What is known of the line but for whether it is legal.
+fn known_of(problem: &Problem, member: u32, line: &Line) -> Profile {
+    let mut profile = Profile {
+        pairings: PairingSet::of(line.pairings()),
+        grants: 0,
+        may_grant: 0,
+        score: 0,
+        may_score: 0,
+        is_legal: false,
+    };
+    let Some(bids) = problem.bids.as_slice().get(member as usize) else {
+        return profile;
+    };
+    for (place, bid) in bids.as_slice().iter().enumerate() {
+        let grants = is_granted(problem, member, number(place), line);
+        let bit = bit_of(place);
+        if grants {
+            profile.grants |= bit;
+            profile.score = profile.score.saturating_add(bid.weight);
+        }
+        if grants || !is_trackable(&bid.wish) {
+            profile.may_grant |= bit;
+            profile.may_score = profile.may_score.saturating_add(bid.weight);
+        }
+    }
+    profile
+}
+
+/// The bit of a bid.
+fn bit_of(bid: usize) -> u64 {
+    if bid < 64 { 1u64 << bid } else { 0 }
+}
+
+/// Whether the bid is one of the member's.
+fn is_bid(problem: &Problem, member: u32, bid: u32) -> bool
+    requires member { member < length problem.now.base.members }
+    ensures bid { IsTrue result → bid < length (bids_of problem.now member) }
+{
+    let lists = problem.bids.as_slice();
+    (bid as usize) < lists[member as usize].len()
+}
+
+/// Whether the line grants the bid.
+pub(crate) fn is_granted(problem: &Problem, member: u32, bid: u32, line: &Line) -> bool {
+    if !is_member(problem, member) || !are_known(problem, line.pairings()) {
+        return false;
+    }
+    is_bid(problem, member, bid) && granted(problem, member, bid, line)
+}
+
+/// Offers a line to the pool, where it is a member's of the problem that the pool was made for.
+fn offer(pool: &mut Pool, problem: &Problem, member: u32, line: Line) -> Result<(), Memory> {
+    if !pool.fits(problem) || !is_member(problem, member) || !are_known(problem, line.pairings()) {
+        return Ok(());
+    }
+    match pool.offer(member, line) {
+        Ok(()) => Ok(()),
+        Err(_line) => Err(Memory::NoMemory),
+    }
+}
+
+impl Profile {
+    /// Whether a relaxation of the goal may use the line: it is legal, and reaches the floor and grants the bid if the
+    /// bids that can't be tracked count as granted.
+    pub(crate) fn may_serve(&self, goal: &Goal, member: usize) -> bool {
+        let floor = floor_of(goal, member);
+        self.is_legal && self.may_score >= floor && bid_asked(goal, member) & !self.may_grant == 0
+    }
+
+    /// Whether the line is legal, and meets the goal.
+    pub(crate) fn serves(&self, goal: &Goal, member: usize) -> bool {
+        let floor = floor_of(goal, member);
+        self.is_legal && self.score >= floor && bid_asked(goal, member) & !self.grants == 0
+    }
+}
+
+/// The member's floor, or 0.
+pub(crate) fn floor_of(goal: &Goal, member: usize) -> u32 {
+    match goal.floors.as_slice().get(member) {
+        Some(floor) => *floor,
+        None => 0,
+    }
+}
+
+/// The bit of the goal's bid, where that is the member's.
+fn bid_asked(goal: &Goal, member: usize) -> u64 {
+    match goal.grant {
+        Some(bid) => {
+            if bid.member as usize == member {
+                bit_of(bid.bid as usize)
+            } else {
+                0
+            }
+        }
+        None => 0,
+    }
+}
+
+impl Kept {
+    /// No lines.
+    pub(crate) fn new(alloc: Global, problem: &Problem) -> Result<Kept, Memory> {
+        let mut profiles = Vec::new(alloc);
+        for _member in 0..problem.base.members.len() {
+            profiles.push(Vec::new(alloc))?;
+        }
+        Ok(Kept {
+            pool: Pool::new(alloc, problem)?,
+            profiles,
+            turn: 0,
+        })
+    }
+
+    /// Whose turn it is to be priced first, of so many members: each time the next one's.
+    pub(crate) fn next_turn(&mut self, members: usize) -> usize {
+        self.turn = self.turn.wrapping_add(1).checked_rem(members).unwrap_or(0);
+        self.turn
+    }
+
+    /// How many lines of a member are kept.
+    pub(crate) fn len(&self, member: usize) -> usize {
+        match self.profiles.get(member) {
+            Some(profiles) => profiles.len(),
+            None => 0,
+        }
+    }
+
+    /// What is known of a line.
+    pub(crate) fn profile(&self, member: usize, place: usize) -> Option<&Profile> {
+        self.profiles.get(member)?.get(place)
+    }
+
+    /// The kept line of a number.
+    fn find(&self, member: usize, place: usize) -> Option<&Line> {
+        let owner = number(member);
+        if (owner as usize) < self.pool.len() {
+            self.pool.get(owner, number(place))
+        } else {
+            None
+        }
+    }
+
+    /// The pairings of a line.
+    pub(crate) fn pairings(&self, member: usize, place: usize) -> &[u32] {
+        match self.find(member, place) {
+            Some(line) => line.pairings(),
+            None => &[],
+        }
+    }
+
+    /// The line once more.
+    pub(crate) fn line(
+        &self,
+        alloc: Global,
+        member: usize,
+        place: usize,
+    ) -> Result<Option<Line>, Memory> {
+        match self.find(member, place) {
+            Some(line) => Ok(Some(line.copy(alloc)?)),
+            None => Ok(None),
+        }
+    }
+
+    /// The number of a line of these pairings, if it is kept.
+    fn place_of(&self, member: usize, pairings: &PairingSet) -> Option<usize> {
+        let profiles = self.profiles.get(member)?;
+        profiles.iter().position(|kept| kept.pairings == *pairings)
+    }
+
+    /// Keeps a line, and says its number; none where there is no room for it.
+    pub(crate) fn keep(
+        &mut self,
+        alloc: Global,
+        problem: &Problem,
+        member: usize,
+        line: Line,
+    ) -> Result<Option<usize>, Memory> {
+        let owner = number(member);
+        let mut profile = known_of(problem, owner, &line);
+        if let Some(place) = self.place_of(member, &profile.pairings) {
+            return Ok(Some(place));
+        }
+        profile.is_legal = is_legal(alloc, problem, owner, &line)?;
+        let place = self.len(member);
+        offer(&mut self.pool, problem, owner, line)?;
+        if self.find(member, place).is_none() {
+            return Ok(None);
+        }
+        let Some(profiles) = self.profiles.get_mut(member) else {
+            return Ok(None);
+        };
+        profiles.push(profile)?;
+        Ok(Some(place))
+    }
+}

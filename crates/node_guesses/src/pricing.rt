@@ -1,0 +1,124 @@
+//! Legal lines of a member above a bound, by a ladder of lenses.
+ghost use Rattle.std.specs.Prelude.{◌≡◌};
+ghost use Rattle.roster_model.specs.Goals.{IsGoal};
+
+use crate::board::Row;
+use crate::kept::{Kept, broken, number};
+use crate::ladder::{first_lens, refine};
+use crate::tested::row_over;
+use duty_calendar::Memory;
+use line_generator::{Over, PricedLine};
+use roster_model::{Goal, Lens, Problem};
+use std::alloc::Global;
+
+/// How many steps a search may take where its answer is to close a node.
+const DEEP: u64 = 1_000_000;
+/// How many steps it may take in guesses at rosters.
+const SHALLOW: u64 = 20_000;
+/// How often a lens is made to look at more.
+const MOST_RUNGS: u32 = 24;
+
+/// How much care is taken: in the guess at a node, or in guesses at rosters.
+#[derive(Clone, Copy, PartialEq, Eq)]
+pub(crate) enum Care {
+    Fine,
+    Rough,
+}
+
+/// What is found above a bound.
+#[derive(Drop)]
+pub(crate) enum Priced {
+    /// The number of a kept line, and what it weighs.
+    Line(usize, i64),
+    /// No line passes this lens.
+    Nothing(Lens),
+    /// A search ran out of steps.
+    Unknown,
+}
+
+impl Care {
+    /// How many steps a search may take.
+    pub(crate) fn steps(self) -> u64 {
+        match self {
+            Care::Fine => DEEP,
+            Care::Rough => SHALLOW,
+        }
+    }
+
+    /// What counts as no miss.
+    pub(crate) fn little(self) -> i64 {
+        match self {
+            Care::Fine => 256,
+            Care::Rough => 2_048,
+        }
+    }
+}
+
+/// Keeps a line that was found. Answers that it is to serve, or lets the lens look at the rule that it breaks.
+fn look(
+    alloc: Global,
+    problem: &Problem,
+    kept: &mut Kept,
+    member: usize,
+    lens: &mut Lens,
+    priced: PricedLine,
+) -> Result<(Option<Priced>, bool), Memory> {
+    let why = broken(alloc, problem, number(member), &priced.line)?;
+    let Some(place) = kept.keep(alloc, problem, member, priced.line)? else {
+        return Ok((None, true));
+    };
+    let found = Some(Priced::Line(place, priced.weight));
+    match why {
+        None => Ok((found, true)),
+        Some(why) => {
+            let is_finer = refine(lens, why);
+            Ok((found, !is_finer))
+        }
+    }
+}
+
+/// A legal line of the member above the bound, or that none passes a lens. Where searches for a legal one run out of
+/// steps, an illegal one may be answered.
+pub(crate) fn price(
+    alloc: Global,
+    problem: &Problem,
+    kept: &mut Kept,
+    member: usize,
+    goal: &Goal,
+    row: &Row,
+    weights: &[i64],
+    over: i64,
+    care: Care,
+) -> Result<Priced, Memory>
+    requires goal { IsGoal problem.now goal.now }
+{
+    let mut lens = first_lens(alloc, problem, member);
+    let mut found = Priced::Unknown;
+    for _ in 0..MOST_RUNGS {
+        let steps = care.steps();
+        let answer = row_over(
+            alloc,
+            problem,
+            number(member),
+            goal,
+            row,
+            &lens,
+            weights,
+            over,
+            steps,
+        )?;
+        let priced = match answer {
+            Over::Line(priced) => priced,
+            Over::Nothing => return Ok(Priced::Nothing(lens)),
+            Over::Limit => return Ok(found),
+        };
+        let (next, is_last) = look(alloc, problem, kept, member, &mut lens, priced)?;
+        if let Some(next) = next {
+            found = next;
+        }
+        if is_last {
+            return Ok(found);
+        }
+    }
+    Ok(found)
+}
