@@ -17,6 +17,7 @@ use Rattle.roster_model.specs.Lenses.{IsLens, IsLensLine, IsBestWeight, HasNoLin
 use Rattle.roster_model.specs.Rosters.{need_of}
 use Rattle.roster_model.specs.Weights.{AreSmallWeights, IsSmallWeight, weight_at, weight_of, sum_below, needed_weight, total}
 use Rattle.roster_model.proofs.Bounds.{ascending-length}
+use Rattle.line_generator.proofs.LineWeights.{small_at, weight_within}
 use Rattle.cert_checker.specs.declared.refusal.ItemFault.TheVariants as fault
 use Rattle.cert_checker.specs.declared.refusal.StepFault.{StepFault}
 use Rattle.cert_checker.specs.declared.refusal.StepFault.TheVariants as step
@@ -36,23 +37,6 @@ get_pushed (z ∷ xs) y (suc k) x e =
 total-push : (xs : List ℤ) (x : ℤ) → total (xs ++ x ∷ []) ≡ total xs +ℤ x
 total-push [] x = omega (arith, ints)
 total-push (y ∷ xs) x = let rest = total-push xs x in omega (arith, ints, rest)
-
--- the weight of each pairing is small
-pub small_at : (weights : List ℤ) (p : ℕ) → AreSmallWeights weights → IsSmallWeight (weight_at weights p)
-small_at weights p small =
-    elim (cases_lt p (length weights)) [
-      | inl lt ↦ small p (pos 0) lt
-      | inr ge ↦ subst IsSmallWeight (sym (get_or_past weights p (pos 0) ge)) (omega (arith, ints), omega (arith, ints))
-    ]
-
-within_more : (n : ℕ) (a b : ℤ) → IsSmallWeight a → IsWithin (n * 2147483647) b → IsWithin (suc n * 2147483647) (a +ℤ b)
-within_more n a b s w = (omega (arith, ints, s.0, w.0), omega (arith, ints, s.1, w.1))
-
-weight_within : (weights : List ℤ) (line : List ℕ) → AreSmallWeights weights → IsWithin (length line * 2147483647) (weight_of weights line)
-unfolding weight_of
-weight_within weights [] small = (omega (arith, ints), omega (arith, ints))
-weight_within weights (p ∷ line) small =
-    within_more (length line) (weight_at weights p) (weight_of weights line) (small_at weights p small) (weight_within weights line small)
 
 within_widened : (n : ℕ) (z : ℤ) → n ≤ 600 → IsWithin (n * 2147483647) z → IsWithin 1288490188200 z
 within_widened n z le w = (omega (arith, ints, w.0), omega (arith, ints, w.1))

@@ -11,11 +11,12 @@ ghost use Rattle.cert_checker.specs.Given.{AreCountableParts, AreInRange, HasSma
 ghost use Rattle.cert_checker.specs.Stops.{Stops};
 ghost use Rattle.cert_checker.specs.Awards.{AreAllClosed, AreAnswered, DenialsFail, Excludes, IsFirstNo, IsFirstOfPlaces, IsIncomplete, NamesFault, PlacesFail};
 
-use crate::goals::{goal_above, scores_of};
+use crate::goals::goal_above;
 use crate::reasons::first_mislisted;
 use crate::refusal::No;
 use crate::shown::first_unshown;
 use crate::walk::first_fault;
+use bid_score::scores_of;
 use duty_calendar::List;
 use line_legality::{RosterFault, complete};
 use roster_model::{Awarded, Goal, Item, Problem, Proof, Reasons, Roster, Shown};
@@ -60,7 +61,7 @@ pub fn judge(
 /// The lines, crews and place proofs of an award alone, with no word on its denied bids: the scores
 /// of the roster where it is complete and each place has its proof, else the first test that fails,
 /// in the order of `judge`.
-pub fn judge_places(
+fn judge_places(
     alloc: Global,
     problem: &Problem,
     roster: &Roster,

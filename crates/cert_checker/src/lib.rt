@@ -16,6 +16,5 @@ mod walk;
 mod weights;
 mod witness;
 
-pub use award::{judge, judge_none, judge_places};
-pub use goals::scores_of;
+pub use award::{judge, judge_none};
 pub use refusal::{ItemFault, No};

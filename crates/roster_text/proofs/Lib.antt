@@ -1,8 +1,16 @@
+pub mod Bytes
 pub mod FaultLaws
 pub mod FieldLaws
 pub mod MemberLaws
 pub mod NameLaws
 pub mod Printed
+pub mod ReasonForms
+pub mod ReasonLaws
+pub mod ReasonLines
+pub mod ReasonNames
+pub mod ReasonPrinted
+pub mod ReasonSizes
+pub mod ReasonSteps
 pub mod RowLaws
 pub mod RowSteps
 pub mod Several

@@ -25,7 +25,7 @@ short name h =
     let s = and_parts (nat_le 1 (length name)) (nat_le (length name) 16) t.0 in
     leb-true (length name) 16 s.1
 
-pairing_short : (problem : Problem) (p : ℕ) → length (pairing_name problem p) ≤ 16
+pub pairing_short : (problem : Problem) (p : ℕ) → length (pairing_name problem p) ≤ 16
 pairing_short problem p =
     elim (slice_get_cases problem.base.pairings p).1 [
       | inl there ↦
@@ -40,7 +40,7 @@ pairing_short problem p =
     forms : All (λ (p : Pairing). IsTrue (is_name p.name)) problem.base.pairings
     forms = All_weaker (IsPairing problem.base.rules.horizon) (λ (p : Pairing). IsTrue (is_name p.name)) problem.base.pairings (λ p good. good.named) problem.valid.month.pairings_form.each
 
-member_short : (problem : Problem) (m : ℕ) → length (member_name problem m) ≤ 16
+pub member_short : (problem : Problem) (m : ℕ) → length (member_name problem m) ≤ 16
 member_short problem m =
     elim (slice_get_cases problem.base.members m).1 [
       | inl there ↦
@@ -66,7 +66,7 @@ names_short problem (p ∷ (q ∷ line)) =
       names_short problem (q ∷ line),
     )
 
-number_short : (n : ℕ) → n < 10 ^ 10 → length (decimal n) ≤ 10
+pub number_short : (n : ℕ) → n < 10 ^ 10 → length (decimal n) ≤ 10
 number_short n small = length-decimal-le 10 n (omega arith) small (omega (arith, small))
 
 sums_short : (problem : Problem) (m : ℕ) (line : List ℕ) → IsLine problem line → length (sums_text problem m line) ≤ 25

@@ -1,5 +1,9 @@
 pub mod Codes
 pub mod NameReading
+pub mod ReasonFaults
+pub mod ReasonReading
+pub mod ReasonText
+pub mod ReasonWords
 pub mod RosterFaults
 pub mod RosterText
 pub mod RowReading

@@ -1,4 +1,4 @@
-//! The text of rosters, read and printed.
+//! The texts of rosters and of reasons, read and printed.
 #![tactic(auto)]
 
 mod fault;
@@ -6,11 +6,18 @@ mod laws;
 mod names;
 mod printing;
 mod reading;
+mod reason_fault;
+mod reason_printing;
+mod reason_reading;
+mod reason_words;
 
 pub use fault::{RosterTextCode, RosterTextFault};
-pub use laws::roster_texts_are_told_apart;
+pub use laws::{reasons_texts_are_told_apart, roster_texts_are_told_apart};
 pub use printing::print_roster;
 pub use reading::read_roster;
+pub use reason_fault::{ReasonTextCode, ReasonTextFault};
+pub use reason_printing::print_reasons;
+pub use reason_reading::read_reasons;
 
 #[cfg(test)]
 mod tests;

@@ -72,7 +72,7 @@ pub fn put_sums(
 }
 
 /// Appends the name of a member.
-fn put_member(out: &mut List<u8>, problem: &Problem, member: u32) -> Result<(), Memory>
+pub fn put_member(out: &mut List<u8>, problem: &Problem, member: u32) -> Result<(), Memory>
     requires member { member < length problem.now.base.members }
     ensures whole { OnOk result (out.new ≡ out.old ++ member_name problem.now member) }
 {

@@ -6,12 +6,13 @@ ghost use Rattle.duty_calendar.specs.Forms.{is_name, is_station_code};
 ghost use Rattle.duty_calendar.specs.Checks.{IsDuty, IsRules, IsPairing, IsMember};
 
 use crate::{
-    RosterTextCode, RosterTextFault, print_roster, read_roster, roster_texts_are_told_apart,
+    ReasonTextCode, ReasonTextFault, RosterTextCode, RosterTextFault, print_reasons, print_roster,
+    read_reasons, read_roster, reasons_texts_are_told_apart, roster_texts_are_told_apart,
 };
 use duty_calendar::{
     Base, Duty, Flown, Horizon, Leg, List, Member, Memory, Name, Pairing, Rules, Station,
 };
-use roster_model::{Bid, Line, Problem, Roster, Wish};
+use roster_model::{Bid, BidRef, Cause, Denial, Line, Problem, Reasons, Roster, Wish};
 use std::alloc::Global;
 
 /// A list of one element.
@@ -260,6 +261,95 @@ fn says_the_first_fault(rt: HostRuntime) -> Result<(), Memory> {
     for (text, row, code) in FAULTS {
         let fault = read_roster(alloc, text, &problem).err();
         assert_eq!(rt; fault, Some(RosterTextFault { row, code }));
+    }
+    Ok(())
+}
+
+/// The one bid, denied for each cause that the month has.
+const DENIED: &[u8] = b"M1 1 tie: 10 fly P1\nM1 1 place 0: 10 fly P1\nM1 1 place 1 M1: 10 fly P1\n";
+
+/// Texts that are none of reasons, with their faults.
+const REASON_FAULTS: [(&[u8], u32, ReasonTextCode); 24] = [
+    (b"\n", 1, ReasonTextCode::Shape),
+    (b"M1 1 tie: 10 fly P1", 1, ReasonTextCode::Shape),
+    (b"M1 1 tie 10 fly P1\n", 1, ReasonTextCode::Shape),
+    (b"M1 1 tie:10 fly P1\n", 1, ReasonTextCode::Shape),
+    (b"M1  1 tie: 10 fly P1\n", 1, ReasonTextCode::Shape),
+    (b"M1 01 tie: 10 fly P1\n", 1, ReasonTextCode::Shape),
+    (b"M1 +1 tie: 10 fly P1\n", 1, ReasonTextCode::Shape),
+    (b"M1 1 Tie: 10 fly P1\n", 1, ReasonTextCode::Shape),
+    (b"M1 1 place 1: 10 fly P1\n", 1, ReasonTextCode::Shape),
+    (b"M1 1 place 0 M1: 10 fly P1\n", 1, ReasonTextCode::Shape),
+    (b"M1 1 place 01 M1: 10 fly P1\n", 1, ReasonTextCode::Shape),
+    (b"M1 1 place 1 M:1: 10 fly P1\n", 1, ReasonTextCode::Shape),
+    (b"M2 2 place 2 M2: 10 fly P2\n", 1, ReasonTextCode::Member),
+    (b"M1 0 place 2 M2: 10 fly P2\n", 1, ReasonTextCode::Bid),
+    (b"M1 2 place 2 M2: 10 fly P2\n", 1, ReasonTextCode::Bid),
+    (b"M1 18446744073709551617 tie: \n", 1, ReasonTextCode::Bid),
+    (b"M1 1 place 2 M1: 10 fly P2\n", 1, ReasonTextCode::Place),
+    (b"M1 1 place 1 M2: 10 fly P2\n", 1, ReasonTextCode::Place),
+    (
+        b"M1 1 place 18446744073709551617 M1: \n",
+        1,
+        ReasonTextCode::Place,
+    ),
+    (b"M1 1 tie: \n", 1, ReasonTextCode::Text),
+    (b"M1 1 tie: 10 fly P2\n", 1, ReasonTextCode::Text),
+    (b"M1 1 tie: 10 fly P1\r\n", 1, ReasonTextCode::Text),
+    (b"M1 1 tie: 10 fly P1\n\n", 2, ReasonTextCode::Shape),
+    (
+        b"M1 1 tie: 10 fly P1\nM1 1 tie: 11 fly P1\n",
+        2,
+        ReasonTextCode::Text,
+    ),
+];
+
+/// The one bid with this cause.
+fn denied(cause: Cause) -> Denial
+    ensures bid { result.bid ≡ record { member = 0; bid = 0 } }
+    ensures cause { result.cause ≡ cause }
+{
+    Denial {
+        bid: BidRef { member: 0, bid: 0 },
+        cause,
+    }
+}
+
+#[test]
+fn reads_and_prints_reasons(rt: HostRuntime) -> Result<(), Memory> {
+    let alloc = rt.alloc();
+    let Some(problem) = june(alloc)? else {
+        return Err(Memory::NoMemory);
+    };
+    let Ok(reasons) = read_reasons(alloc, DENIED, &problem) else {
+        return Err(Memory::NoMemory);
+    };
+    let causes = [Cause::Tie, Cause::Place(0), Cause::Place(1)];
+    for (at, cause) in causes.iter().enumerate() {
+        assert_eq!(rt; reasons.as_slice().get(at), Some(&denied(*cause)));
+    }
+    let text = print_reasons(alloc, &problem, &reasons)?;
+    assert_eq!(rt; text.as_slice(), DENIED);
+    let none: Result<Reasons, ReasonTextFault> = Ok(List::new(alloc));
+    assert_eq!(rt; read_reasons(alloc, b"", &problem), none);
+    reasons_texts_are_told_apart(&problem);
+    Ok(())
+}
+
+#[test]
+fn says_the_first_fault_of_reasons(rt: HostRuntime) -> Result<(), Memory> {
+    let alloc = rt.alloc();
+    let Some(problem) = june(alloc)? else {
+        return Err(Memory::NoMemory);
+    };
+    for (text, line, code) in REASON_FAULTS {
+        if text.len() > 100 {
+            return Err(Memory::NoMemory);
+        }
+        assert_eq!(rt;
+            read_reasons(alloc, text, &problem),
+            Err(ReasonTextFault { line, code })
+        );
     }
     Ok(())
 }

@@ -1,0 +1,5 @@
+pub mod Asked
+pub mod Explained
+pub mod Known
+pub mod Made
+pub mod Settled

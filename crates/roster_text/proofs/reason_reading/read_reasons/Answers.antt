@@ -1,0 +1,20 @@
+use Rattle.roster_text.proofs.ReasonSteps.{is_read, is_known, is_placed, is_fault, is_only, is_first}
+use Rattle.roster_text.proofs.reason_reading.read_reasons.Goals as goal
+
+pub returns-clause-read : goal.returns-clause-read
+returns-clause-read c = is_read c.args.problem.now c.args.text.now c.whole_of.result c.whole_of.ensures.read
+
+pub returns-clause-bids : goal.returns-clause-bids
+returns-clause-bids c = is_known c.args.problem.now c.args.text.now c.whole_of.result c.whole_of.ensures.read
+
+pub returns-clause-places : goal.returns-clause-places
+returns-clause-places c = is_placed c.args.problem.now c.args.text.now c.whole_of.result c.whole_of.ensures.read
+
+pub returns-clause-fault : goal.returns-clause-fault
+returns-clause-fault c = is_fault c.args.problem.now c.args.text.now c.whole_of.result c.whole_of.ensures.read
+
+pub returns-clause-only : goal.returns-clause-only
+returns-clause-only c = is_only c.args.problem.now c.args.text.now c.whole_of.result c.whole_of.ensures.read
+
+pub returns-clause-first : goal.returns-clause-first
+returns-clause-first c = is_first c.args.problem.now c.args.text.now c.whole_of.result c.whole_of.ensures.read
