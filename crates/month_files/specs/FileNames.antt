@@ -1,7 +1,7 @@
 -- The names and limits of files.
 use Rattle.std.specs.Prelude.{ℕ, List, codes}
 use Rattle.month_files.specs.declared.file.File.{File}
-use Rattle.month_files.specs.declared.file.File.TheVariants.{Rules, Pairings, Duties, Legs, Crew, History, Fixed, Bids, Certificate, Roster}
+use Rattle.month_files.specs.declared.file.File.TheVariants.{Rules, Pairings, Duties, Legs, Crew, History, Fixed, Bids, Certificate, Roster, Reasons}
 
 abbrev pub name_of : File → List ℕ
 name_of Rules = codes "rules.toml"
@@ -14,6 +14,7 @@ name_of Fixed = codes "fixed.csv"
 name_of Bids = codes "bids.txt"
 name_of Certificate = codes "certificate.txt"
 name_of Roster = codes "roster.csv"
+name_of Reasons = codes "reasons.txt"
 
 -- the most bytes that the file may have: 64 MiB, and a certificate 2 GiB
 abbrev pub limit_of : File → ℕ
@@ -27,3 +28,4 @@ limit_of Fixed = 67108864
 limit_of Bids = 67108864
 limit_of Certificate = 2147483648
 limit_of Roster = 67108864
+limit_of Reasons = 67108864

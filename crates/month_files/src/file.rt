@@ -18,6 +18,7 @@ pub enum File {
     Bids,
     Certificate,
     Roster,
+    Reasons,
 }
 
 impl File {
@@ -37,6 +38,7 @@ impl File {
             File::Bids => "bids.txt",
             File::Certificate => "certificate.txt",
             File::Roster => "roster.csv",
+            File::Reasons => "reasons.txt",
         }
     }
 

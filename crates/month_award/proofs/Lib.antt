@@ -1,0 +1,9 @@
+pub mod Numbers
+pub mod Lengths
+pub mod Leaves
+pub mod Closings
+pub mod Reasons
+pub mod Rosters
+pub mod Parts
+pub mod Certificates
+pub mod Ends

@@ -1,0 +1,74 @@
+-- What the award of a month comes to.
+use Rattle.std.specs.Prelude.{◌≡◌, ℕ, ◌+◌, ◌<◌, ◌≤◌, true, List, [], length, take}
+use Rattle.roster_model.specs.declared.problem.Problem.{Problem}
+use Rattle.roster_model.specs.declared.goal.Goal.{Goal}
+use Rattle.roster_model.specs.declared.entry.Entry.{Entry}
+use Rattle.roster_model.specs.declared.proof.Item.{Item}
+use Rattle.roster_model.specs.declared.award.Awarded.{Awarded}
+use Rattle.roster_model.specs.declared.award.Certificate.{Certificate}
+use Rattle.roster_model.specs.declared.award.Certificate.TheVariants as form
+use Rattle.roster_model.specs.Rosters.{scores_of}
+use Rattle.roster_model.specs.Closing.{Closes}
+use Rattle.roster_model.specs.Awards.{no_goal}
+use Rattle.roster_model.specs.Denials.{IsAwarded}
+use Rattle.roster_model.specs.Lawful.{AreGreatest, IsLawful}
+use Rattle.roster_model.specs.Splits.{splits_in, all_splits, shown_splits}
+use Rattle.cert_text.specs.Limits.{is_certificate}
+use Rattle.cert_text.specs.Spelling.{certificate_text}
+use Rattle.month_award.specs.declared.outcome.AwardedMonth.{AwardedMonth}
+use Rattle.month_award.specs.declared.outcome.UnfillableMonth.{UnfillableMonth}
+use Rattle.month_award.specs.declared.outcome.MonthAward.{MonthAward}
+use Rattle.month_award.specs.declared.outcome.MonthAward.TheVariants.{Award, NoRoster, Budget}
+
+-- the certificate has a text that is read, and that is no longer than its file may be
+pub record IsWritable (certificate : Certificate) : Type 0 where
+  pub limits : is_certificate certificate ≡ true
+  pub bytes : length (certificate_text certificate) ≤ 2147483648
+
+-- a lawful ledger of the problem, by 400 rounds, has so many entries
+pub record HasLedger (problem : Problem) (count : ℕ) : Type 0 where
+  pub goals : List Goal
+  pub entries : List Entry
+  pub lawful : IsLawful problem 400 goals entries
+  pub counted : length entries ≡ count
+
+-- A roster, the reasons of the bids that it does not grant, no more of them than their text may have, and a certificate
+-- that is accepted for both and that has no more splits than entries were counted.
+pub record IsAwardedMonth (problem : Problem) (nodes : ℕ) (month : AwardedMonth) : Type 0 where
+  pub awarded : Awarded
+  pub of_award : month.certificate ≡ form.Award awarded
+  pub accepted : IsAwarded problem month.roster month.reasons awarded
+  pub few : length month.reasons ≤ 12800
+  pub writable : IsWritable month.certificate
+  pub ledger : HasLedger problem month.entries
+  pub room : month.entries < nodes
+  pub splits : all_splits awarded.proofs + shown_splits awarded.shown ≤ month.entries
+
+-- a certificate with a proof that there is no complete roster, which has no more splits than entries were counted
+pub record IsUnfillableMonth (problem : Problem) (nodes : ℕ) (month : UnfillableMonth) : Type 0 where
+  pub proof : List Item
+  pub of_none : month.certificate ≡ form.NoRoster proof
+  pub closes : Closes problem no_goal [] proof
+  pub writable : IsWritable month.certificate
+  pub ledger : HasLedger problem month.entries
+  pub room : month.entries < nodes
+  pub splits : splits_in proof ≤ month.entries
+
+-- the budget is spent only with as many entries as there are nodes
+abbrev pub IsMonthAward : Problem → ℕ → MonthAward → Type 0
+IsMonthAward problem nodes (Award month) = IsAwardedMonth problem nodes month
+IsMonthAward problem nodes (NoRoster month) = IsUnfillableMonth problem nodes month
+IsMonthAward problem nodes Budget = HasLedger problem nodes
+
+-- at each place the first scores of the roster are the greatest list of as many
+abbrev pub GivesGreatestScores : Problem → MonthAward → Type 0
+GivesGreatestScores problem (Award month) =
+    (k : ℕ) → k ≤ length problem.base.members → AreGreatest problem (take k (scores_of problem month.roster))
+GivesGreatestScores problem (NoRoster month) = Unit {0}
+GivesGreatestScores problem Budget = Unit {0}
+
+-- the award came to an end
+abbrev pub IsNotBudget : MonthAward → Type 0
+IsNotBudget (Award month) = Unit {0}
+IsNotBudget (NoRoster month) = Unit {0}
+IsNotBudget Budget = ⊥
