@@ -1,10 +1,13 @@
-pub mod ReadingLaws
-pub mod Several
-pub mod RosterLaws
 pub mod Saying
 pub mod Texts
+pub mod WordLaws
+pub mod WriteLaws
+pub mod Limits
 pub mod CheckLaws
 pub mod HandedLaws
+pub mod AwardLaws
 pub mod OneAnswer
 pub mod Standing
+pub mod AwardStanding
+pub mod AwardWays
 pub mod Rows

@@ -1,30 +1,38 @@
 -- The files of a folder have `check` end in one way, where no read fails and memory is there.
-use Rattle.std.proofs.Common.{◌≡◌, ℕ, ◌<◌, List, [], length, Option, Some, None, Result, Ok, Err, refl, sym, ap, subst, ◌∙◌, inl, inr, arith}
+use Rattle.std.proofs.Common.{◌≡◌, ℕ, List, [], Option, Some, None, Result, Ok, Err, refl, sym, subst, ◌∙◌, inl, inr}
 use Rattle.std.specs.Prelude.{◌⊎◌}
 use Rattle.shelf.specs.Files.{Files}
 use Rattle.roster_model.specs.declared.problem.Problem.{Problem}
 use Rattle.roster_model.specs.declared.award.Awarded.{Awarded}
+use Rattle.roster_model.specs.declared.award.Denial.{Denial}
 use Rattle.roster_model.specs.declared.award.Certificate.{Certificate}
 use Rattle.roster_model.specs.declared.award.Certificate.TheVariants.{Award, NoRoster}
-use Rattle.roster_model.specs.Awards.{IsBest, no_goal}
+use Rattle.roster_model.specs.Awards.{no_goal}
+use Rattle.roster_model.specs.Denials.{IsAwarded}
 use Rattle.roster_model.specs.Closing.{Closes}
 use Rattle.cert_text.specs.declared.fault.CertFault.{CertFault}
 use Rattle.cert_text.specs.Reading.{certificate_in}
 use Rattle.month_files.specs.declared.fault.InputFault.{InputFault}
-use Rattle.month_files.specs.declared.file.File.TheVariants.{Roster}
 use Rattle.month_files.specs.declared.unread.Unread.{Unread}
 use Rattle.month_files.specs.Months.{Names, HasFault}
-use Rattle.month_files.specs.Reading.{text_in}
 use Rattle.month_files.proofs.OneMonth.{one_problem, never_both}
+use Rattle.roster_text.specs.declared.fault.RosterTextFault.{RosterTextFault}
+use Rattle.roster_text.specs.RosterFaults.{HasFault as HasRosterFault}
+use Rattle.roster_text.specs.RosterText.{IsTextOf}
+use Rattle.roster_text.specs.declared.reason_fault.ReasonTextFault.{ReasonTextFault}
+use Rattle.roster_text.specs.ReasonFaults.{HasReasonFault}
+use Rattle.roster_text.specs.ReasonText.{IsReasonsText}
+use Rattle.roster_text.proofs.FaultLaws.{not_both}
+use Rattle.roster_text.proofs.ReasonLines.{one_list, not_both as never_faulty}
+use Rattle.roster_text.proofs.RowLaws.{one_roster}
 use Rattle.pbs_engine.specs.declared.check_stop.Refusal.{Refusal}
 use Rattle.pbs_engine.specs.declared.check_stop.Refusal.TheVariants as refusal
 use Rattle.pbs_engine.specs.declared.status.Status.{Status}
 use Rattle.pbs_engine.specs.declared.status.Status.TheVariants as status
 use Rattle.pbs_engine.specs.declared.verdict.Verdict.{Verdict}
 use Rattle.pbs_engine.specs.declared.verdict.Verdict.TheVariants as verdict
-use Rattle.pbs_engine.specs.Check.{Given, given_in, HasBadInput, NamesProblem, NamesCertificate, ShowsDenials, NamesAward, NamesAll, IsAccepted, IsRefused, EndsReading}
+use Rattle.pbs_engine.specs.Check.{Given, given_in, Claimed, claimed_in, HasBadInput, NamesProblem, NamesCertificate, HasClaim, NamesAll, IsAccepted, IsRefused, EndsReading}
 use Rattle.pbs_engine.specs.MonthEnds.{unread_status}
-use Rattle.pbs_engine.specs.RosterReading.{roster_of}
 
 -- what a status takes behind a stage that is a function
 abbrev pub By : {A E : Type 0} → (E → Status → Type 0) → (A → Status → Type 0) → Result A E → Status → Type 0
@@ -62,14 +70,36 @@ one_judged P s t (inl a) (inr b) = absurd (b.0 a.0)
 one_judged P s t (inr a) (inl b) = absurd (a.0 b.0)
 one_judged P s t (inr a) (inr b) = a.1 ∙ sym b.1
 
-abbrev AfterText : Problem → Awarded → List ℕ → Status → Type 0
-AfterText p a bytes s = ByOption (λ u. u ≡ status.No) (λ roster. Judged (IsBest p roster a.proofs)) (roster_of p bytes) s
+-- the text has a fault, or is that of reasons
+pub record FaultyReasons (p : Problem) (bytes : List ℕ) (s : Status) : Type 0 where
+  pub fault : ReasonTextFault
+  pub has : HasReasonFault p bytes fault
+  pub is : s ≡ status.No
 
-abbrev AfterShown : Files → Problem → Awarded → Status → Type 0
-AfterShown files p a s = By (λ why u. u ≡ unread_status why) (AfterText p a) (text_in files Roster) s
+pub record ReasonsNamed (p : Problem) (a : Awarded) (roster : List (List ℕ)) (bytes : List ℕ) (s : Status) : Type 0 where
+  pub reasons : List Denial
+  pub read : IsReasonsText p bytes reasons
+  pub then' : Judged (IsAwarded p roster reasons a) s
+
+abbrev AfterRoster : Problem → Awarded → List ℕ → List (List ℕ) → Status → Type 0
+AfterRoster p a bytes roster s = FaultyReasons p bytes s ⊎ ReasonsNamed p a roster bytes s
+
+-- the text has a fault, or is that of a roster
+pub record FaultyRoster (p : Problem) (bytes : List ℕ) (s : Status) : Type 0 where
+  pub fault : RosterTextFault
+  pub has : HasRosterFault p bytes fault
+  pub is : s ≡ status.No
+
+pub record RosterNamed (p : Problem) (a : Awarded) (claimed : Claimed) (s : Status) : Type 0 where
+  pub roster : List (List ℕ)
+  pub read : IsTextOf p claimed.roster roster
+  pub then' : AfterRoster p a claimed.reasons roster s
+
+abbrev AfterClaim : Problem → Awarded → Claimed → Status → Type 0
+AfterClaim p a claimed s = FaultyRoster p claimed.roster s ⊎ RosterNamed p a claimed s
 
 abbrev AfterAward : Files → Problem → Awarded → Status → Type 0
-AfterAward files p a s = ((0 < length a.shown) × (s ≡ status.NotYet)) ⊎ ((a.shown ≡ []) × AfterShown files p a s)
+AfterAward files p a s = By (λ why u. u ≡ unread_status why) (AfterClaim p a) (claimed_in files) s
 
 abbrev AfterCertificate : Files → Problem → Certificate → Status → Type 0
 AfterCertificate files p (Award a) s = AfterAward files p a s
@@ -97,18 +127,24 @@ Path files s = By (λ why u. u ≡ unread_status why) (AfterGiven files) (given_
 
 -- ---- there is one way
 
-one_text : (p : Problem) (a : Awarded) (bytes : List ℕ) → IsOne (AfterText p a bytes)
-one_text p a bytes =
-    one_by_option (λ u. u ≡ status.No) (λ roster. Judged (IsBest p roster a.proofs)) (one_is status.No) (λ roster. one_judged (IsBest p roster a.proofs)) (roster_of p bytes)
+one_after_roster : (p : Problem) (a : Awarded) (bytes : List ℕ) (roster : List (List ℕ)) → IsOne (AfterRoster p a bytes roster)
+one_after_roster p a bytes roster s t (inl x) (inl y) = x.is ∙ sym y.is
+one_after_roster p a bytes roster s t (inl x) (inr y) = absurd (never_faulty p bytes y.reasons x.fault y.read x.has)
+one_after_roster p a bytes roster s t (inr x) (inl y) = absurd (never_faulty p bytes x.reasons y.fault x.read y.has)
+one_after_roster p a bytes roster s t (inr x) (inr y) =
+    one_judged (IsAwarded p roster y.reasons a) s t
+    (subst (λ (r : List Denial). Judged (IsAwarded p roster r a) s) (one_list p bytes x.reasons y.reasons x.read y.read) x.then') y.then'
 
-one_shown : (files : Files) (p : Problem) (a : Awarded) → IsOne (AfterShown files p a)
-one_shown files p a = one_by (λ why u. u ≡ unread_status why) (AfterText p a) (λ why. one_is (unread_status why)) (one_text p a) (text_in files Roster)
+one_claim : (p : Problem) (a : Awarded) (claimed : Claimed) → IsOne (AfterClaim p a claimed)
+one_claim p a claimed s t (inl x) (inl y) = x.is ∙ sym y.is
+one_claim p a claimed s t (inl x) (inr y) = absurd (not_both p claimed.roster y.roster x.fault y.read x.has)
+one_claim p a claimed s t (inr x) (inl y) = absurd (not_both p claimed.roster x.roster y.fault x.read y.has)
+one_claim p a claimed s t (inr x) (inr y) =
+    one_after_roster p a claimed.reasons y.roster s t
+    (subst (λ (r : List (List ℕ)). AfterRoster p a claimed.reasons r s) (one_roster p claimed.roster x.roster y.roster x.read y.read) x.then') y.then'
 
 one_award : (files : Files) (p : Problem) (a : Awarded) → IsOne (AfterAward files p a)
-one_award files p a s t (inl x) (inl y) = x.1 ∙ sym y.1
-one_award files p a s t (inl x) (inr y) = let none : length a.shown ≡ 0 = ap length y.0 in let some = x.0 in absurd (omega (arith, none, some))
-one_award files p a s t (inr x) (inl y) = let none : length a.shown ≡ 0 = ap length x.0 in let some = y.0 in absurd (omega (arith, none, some))
-one_award files p a s t (inr x) (inr y) = one_shown files p a s t x.1 y.1
+one_award files p a = one_by (λ why u. u ≡ unread_status why) (AfterClaim p a) (λ why. one_is (unread_status why)) (one_claim p a) (claimed_in files)
 
 one_certificate : (files : Files) (p : Problem) (c : Certificate) → IsOne (AfterCertificate files p c)
 one_certificate files p (Award a) = one_award files p a
@@ -149,40 +185,42 @@ module _ (files : Files) (s : Status) where
       month_path named.given p named.before
       (enter (λ (fault : CertFault) u. u ≡ status.No) (AfterCertificate files p) (certificate_in named.given.certificate) c s named.read h)
 
-  shown_path : (p : Problem) (a : Awarded) → NamesAward files p a → AfterShown files p a s → Path files s
-  shown_path p a named h = certificate_path p (Award a) named.before (inr (named.none_shown, h))
+  award_path : (p : Problem) (a : Awarded) → NamesCertificate files p (Award a) → AfterAward files p a s → Path files s
+  award_path p a named h = certificate_path p (Award a) named h
 
-  text_path : (p : Problem) (a : Awarded) (bytes : List ℕ) → NamesAward files p a → text_in files Roster ≡ Ok bytes → AfterText p a bytes s → Path files s
-  text_path p a bytes named there h = shown_path p a named (enter (λ why u. u ≡ unread_status why) (AfterText p a) (text_in files Roster) bytes s there h)
+  claim_path : (p : Problem) (a : Awarded) (claimed : Claimed) → HasClaim files p a claimed → AfterClaim p a claimed s → Path files s
+  claim_path p a claimed has h = award_path p a has.before (enter (λ why u. u ≡ unread_status why) (AfterClaim p a) (claimed_in files) claimed s has.there h)
 
-  roster_path : (p : Problem) (a : Awarded) (roster : List (List ℕ)) → NamesAll files p a roster → Judged (IsBest p roster a.proofs) s → Path files s
-  roster_path p a roster named h =
-      text_path p a named.text named.before named.there
-      (subst (λ q. ByOption (λ u. u ≡ status.No) (λ (r : List (List ℕ)). Judged (IsBest p r a.proofs)) q s) (sym named.read) h)
+  roster_path : (p : Problem) (a : Awarded) (claimed : Claimed) (roster : List (List ℕ)) → HasClaim files p a claimed → IsTextOf p claimed.roster roster
+      → AfterRoster p a claimed.reasons roster s → Path files s
+  roster_path p a claimed roster has read h = claim_path p a claimed has (inr (record { roster = roster; read = read; then' = h }))
+
+  reasons_path : (p : Problem) (a : Awarded) (roster : List (List ℕ)) (reasons : List Denial) → NamesAll files p a roster reasons
+      → Judged (IsAwarded p roster reasons a) s → Path files s
+  reasons_path p a roster reasons named h =
+      roster_path p a named.claimed roster named.before named.roster_read (inr (record { reasons = reasons; read = named.reasons_read; then' = h }))
 
 module _ (files : Files) where
   pub accepted_path : (shown : Verdict) → IsAccepted files shown → Path files status.Done
-  accepted_path (verdict.Award scores) h = roster_path files status.Done h.problem h.awarded h.roster h.named (inl (h.best, refl))
+  accepted_path (verdict.Award scores) h = reasons_path files status.Done h.problem h.awarded h.roster h.reasons h.named (inl (h.accepted, refl))
   accepted_path verdict.NoRoster h = certificate_path files status.Done h.problem (NoRoster h.proof) h.named (inl (h.closes, refl))
 
   pub refused_path : (why : Refusal) → IsRefused files why → Path files status.No
   refused_path (refusal.Certificate fault) h =
       month_path files status.No h.given h.problem h.before
       (leave (λ (f : CertFault) u. u ≡ status.No) (AfterCertificate files h.problem) (certificate_in h.given.certificate) fault status.No h.unread refl)
-  refused_path refusal.Roster h =
-      text_path files status.No h.problem h.awarded h.text h.before h.there
-      (subst (λ q. ByOption (λ u. u ≡ status.No) (λ (r : List (List ℕ)). Judged (IsBest h.problem r h.awarded.proofs)) q status.No) (sym h.unread) refl)
-  refused_path (refusal.Judged why) (inl h) = roster_path files status.No h.problem h.awarded h.roster h.named (inr (h.not_best, refl))
+  refused_path (refusal.Roster fault) h =
+      claim_path files status.No h.problem h.awarded h.claimed h.before (inl (record { fault = fault; has = h.bad; is = refl }))
+  refused_path (refusal.Reasons fault) h =
+      roster_path files status.No h.problem h.awarded h.claimed h.roster h.before h.read (inl (record { fault = fault; has = h.bad; is = refl }))
+  refused_path (refusal.Judged why) (inl h) = reasons_path files status.No h.problem h.awarded h.roster h.reasons h.named (inr (h.not_accepted, refl))
   refused_path (refusal.Judged why) (inr h) = certificate_path files status.No h.problem (NoRoster h.proof) h.named (inr (h.not_closed, refl))
 
   pub bad_path : (fault : InputFault) → HasBadInput files fault → Path files status.BadInput
   bad_path fault h = given_path files status.BadInput h.given h.read (inl (record { fault = fault; has = h.bad; is = refl }))
 
-  pub denials_path : ShowsDenials files → Path files status.NotYet
-  denials_path h = certificate_path files status.NotYet h.problem (Award h.awarded) h.before (inl (h.some, refl))
-
   pub unread_path : (why : Unread) → EndsReading files why → Path files (unread_status why)
   unread_path why (inl h) = leave (λ w u. u ≡ unread_status w) (AfterGiven files) (given_in files) why (unread_status why) h refl
   unread_path why (inr h) =
-      shown_path files (unread_status why) h.problem h.awarded h.before
-      (leave (λ w u. u ≡ unread_status w) (AfterText h.problem h.awarded) (text_in files Roster) why (unread_status why) h.ends refl)
+      award_path files (unread_status why) h.problem h.awarded h.before
+      (leave (λ w u. u ≡ unread_status w) (AfterClaim h.problem h.awarded) (claimed_in files) why (unread_status why) h.ends refl)

@@ -4,11 +4,15 @@ use Rattle.cert_checker.specs.declared.refusal.No.TheVariants as no
 use Rattle.cert_text.specs.declared.fault.CertCode.{CertCode}
 use Rattle.cert_text.specs.declared.fault.CertCode.TheVariants as cert
 use Rattle.cert_text.specs.declared.fault.CertFault.{CertFault}
+use Rattle.roster_text.specs.declared.reason_fault.ReasonTextCode.{ReasonTextCode}
+use Rattle.roster_text.specs.declared.reason_fault.ReasonTextCode.TheVariants as reason
+use Rattle.roster_text.specs.declared.reason_fault.ReasonTextFault.{ReasonTextFault}
+use Rattle.roster_text.specs.declared.fault.RosterTextCode.{RosterTextCode}
+use Rattle.roster_text.specs.declared.fault.RosterTextCode.TheVariants as text
+use Rattle.roster_text.specs.declared.fault.RosterTextFault.{RosterTextFault}
 use Rattle.pbs_engine.specs.declared.check_stop.CheckStop.{CheckStop}
 use Rattle.pbs_engine.specs.declared.check_stop.CheckStop.TheVariants as stop
 use Rattle.pbs_engine.specs.declared.check_stop.Refusal.TheVariants as refusal
-use Rattle.pbs_engine.specs.declared.text_fault.TextFault.{TextFault}
-use Rattle.pbs_engine.specs.declared.text_fault.TextFault.TheVariants as text
 
 -- a fault of the certificate's text
 abbrev pub cert_stop : CertCode → CertFault → CheckStop
@@ -21,9 +25,23 @@ cert_stop cert.Trailing fault = stop.No (refusal.Certificate fault)
 cert_stop cert.Limit fault = stop.No (refusal.Certificate fault)
 
 -- a fault of the roster's text
-abbrev pub roster_stop : TextFault → CheckStop
-roster_stop text.Unread = stop.No refusal.Roster
-roster_stop text.NoMemory = stop.NoMemory
+abbrev pub roster_stop : RosterTextCode → RosterTextFault → CheckStop
+roster_stop text.NoMemory fault = stop.NoMemory
+roster_stop text.Header fault = stop.No (refusal.Roster fault)
+roster_stop text.Shape fault = stop.No (refusal.Roster fault)
+roster_stop text.Member fault = stop.No (refusal.Roster fault)
+roster_stop text.Pairing fault = stop.No (refusal.Roster fault)
+roster_stop text.Sums fault = stop.No (refusal.Roster fault)
+roster_stop text.Rows fault = stop.No (refusal.Roster fault)
+
+-- a fault of the reasons' text
+abbrev pub reasons_stop : ReasonTextCode → ReasonTextFault → CheckStop
+reasons_stop reason.NoMemory fault = stop.NoMemory
+reasons_stop reason.Shape fault = stop.No (refusal.Reasons fault)
+reasons_stop reason.Member fault = stop.No (refusal.Reasons fault)
+reasons_stop reason.Bid fault = stop.No (refusal.Reasons fault)
+reasons_stop reason.Place fault = stop.No (refusal.Reasons fault)
+reasons_stop reason.Text fault = stop.No (refusal.Reasons fault)
 
 -- an answer of the judge
 abbrev pub judge_stop : No → CheckStop

@@ -11,9 +11,8 @@ use Rattle.cert_checker.specs.declared.refusal.ItemFault.{ItemFault}
 use Rattle.cert_checker.specs.declared.refusal.ItemFault.TheVariants as item
 use Rattle.cert_checker.specs.declared.refusal.No.{No}
 use Rattle.cert_checker.specs.declared.refusal.No.TheVariants as no
-use Rattle.month_files.specs.declared.file.File.TheVariants.{Certificate as CertificateFile}
-use Rattle.month_files.specs.FileNames.{name_of}
 use Rattle.month_files.specs.Reading.{UnreadCause}
+use Rattle.roster_text.specs.Codes.{roster_code, reason_code}
 use Rattle.pbs_engine.specs.declared.check_stop.CheckStop.{CheckStop}
 use Rattle.pbs_engine.specs.declared.check_stop.CheckStop.TheVariants as stop
 use Rattle.pbs_engine.specs.declared.check_stop.Refusal.{Refusal}
@@ -29,7 +28,6 @@ abbrev pub check_status : Result Verdict CheckStop → Status
 check_status (Ok shown) = status.Done
 check_status (Err (stop.Unread why)) = unread_status why
 check_status (Err (stop.BadInput why)) = input_status why
-check_status (Err stop.NotYet) = status.NotYet
 check_status (Err (stop.No why)) = status.No
 check_status (Err stop.NoMemory) = status.NoMemory
 
@@ -38,7 +36,6 @@ abbrev pub CheckCause : Tally → Tally → Result Verdict CheckStop → Type 0
 CheckCause old new (Ok shown) = new ≡ old
 CheckCause old new (Err (stop.Unread why)) = UnreadCause old new why
 CheckCause old new (Err (stop.BadInput why)) = new ≡ old
-CheckCause old new (Err stop.NotYet) = new ≡ old
 CheckCause old new (Err (stop.No why)) = new ≡ old
 CheckCause old new (Err stop.NoMemory) = new ≡ old
 
@@ -89,7 +86,8 @@ no_text (no.Shown m b) = numbers (7 ∷ (m + 1) ∷ (b + 1) ∷ [])
 
 abbrev pub refusal_text : Refusal → List ℕ
 refusal_text (refusal.Certificate fault) = line_of (codes "no certificate") (fault.line ∷ cert_code fault.code ∷ [])
-refusal_text refusal.Roster = line (codes "no roster")
+refusal_text (refusal.Roster fault) = line_of (codes "no roster") (fault.row ∷ roster_code fault.code ∷ [])
+refusal_text (refusal.Reasons fault) = line_of (codes "no reasons") (fault.line ∷ reason_code fault.code ∷ [])
 refusal_text (refusal.Judged why) = line (codes "no" ++ no_text why)
 
 -- what is printed at a yes
@@ -101,6 +99,5 @@ abbrev pub check_text : Result Verdict CheckStop → List ℕ
 check_text (Ok shown) = yes_text shown
 check_text (Err (stop.Unread why)) = unread_text why
 check_text (Err (stop.BadInput why)) = bad_input_text why
-check_text (Err stop.NotYet) = line (codes "not yet " ++ name_of CertificateFile)
 check_text (Err (stop.No why)) = refusal_text why
 check_text (Err stop.NoMemory) = []

@@ -5,7 +5,7 @@ use Rattle.shelf.specs.Logs.{Entries, holding}
 use Rattle.roster_model.specs.declared.problem.Problem.{Problem}
 use Rattle.roster_model.specs.declared.award.Certificate.{Certificate}
 use Rattle.cert_text.specs.Reading.{certificate_in}
-use Rattle.month_files.specs.declared.file.File.TheVariants.{Rules, Pairings, Duties, Legs, Crew, History, Fixed, Bids, Certificate as CertificateFile, Roster}
+use Rattle.month_files.specs.declared.file.File.TheVariants.{Rules, Pairings, Duties, Legs, Crew, History, Fixed, Bids, Certificate as CertificateFile, Roster, Reasons}
 use Rattle.month_files.specs.FileNames.{name_of, limit_of}
 use Rattle.month_files.specs.Handing.{input_texts}
 use Rattle.month_files.specs.Months.{Names}
@@ -13,11 +13,11 @@ use Rattle.month_files.specs.Reading.{AreShort}
 use Rattle.pbs_engine.specs.declared.check_stop.CheckStop.{CheckStop}
 use Rattle.pbs_engine.specs.declared.check_stop.CheckStop.TheVariants as stop
 use Rattle.pbs_engine.specs.declared.verdict.Verdict.{Verdict}
-use Rattle.pbs_engine.specs.Check.{Given, IsAccepted, IsBadInput, IsRefused, ShowsDenials}
+use Rattle.pbs_engine.specs.Check.{Given, Claimed, IsAccepted, IsBadInput, IsRefused}
 
 -- the files in the order in which `check` reads them
 abbrev pub reading_order : List (List ℕ)
-reading_order = map name_of (Rules ∷ Pairings ∷ Duties ∷ Legs ∷ Crew ∷ History ∷ Fixed ∷ Bids ∷ CertificateFile ∷ Roster ∷ [])
+reading_order = map name_of (Rules ∷ Pairings ∷ Duties ∷ Legs ∷ Crew ∷ History ∷ Fixed ∷ Bids ∷ CertificateFile ∷ Roster ∷ Reasons ∷ [])
 
 -- the reads handed in these texts, of the first so many files, each once and in order; and P holds of files with them
 pub record FromTexts (old new : Entries) (P : Files → Type 0) : Type 0 where
@@ -32,13 +32,21 @@ abbrev pub IsHanded : Entries → Entries → Result Verdict CheckStop → Type 
 IsHanded old new (Ok shown) = FromTexts old new (λ files. IsAccepted files shown)
 IsHanded old new (Err (stop.Unread why)) = Unit {0}
 IsHanded old new (Err (stop.BadInput why)) = FromTexts old new (λ files. IsBadInput files why)
-IsHanded old new (Err stop.NotYet) = FromTexts old new ShowsDenials
 IsHanded old new (Err (stop.No why)) = FromTexts old new (λ files. IsRefused files why)
 IsHanded old new (Err stop.NoMemory) = Unit {0}
 
 -- the inputs and the certificate, as they are read
 abbrev pub given_texts : Given → Entries
 given_texts given = input_texts given.inputs ++ (name_of CertificateFile, given.certificate) ∷ []
+
+-- the roster and the reasons, as they are read
+abbrev pub claimed_texts : Claimed → Entries
+claimed_texts claimed = (name_of Roster, claimed.roster) ∷ (name_of Reasons, claimed.reasons) ∷ []
+
+-- neither is longer than its limit
+pub record IsBrief (claimed : Claimed) : Type 0 where
+  pub roster : length claimed.roster ≤ limit_of Roster
+  pub reasons : length claimed.reasons ≤ limit_of Reasons
 
 -- the reads so far handed in these, and they name a problem and a certificate
 pub record HandedIn (old log : Entries) (problem : Problem) (certificate : Certificate) : Type 0 where

@@ -73,9 +73,10 @@ pub record Runs (words : List (List ℕ)) (old new : Shelved) (before after : Su
 abbrev pub RunCause : Tally → Tally → ℕ → ℕ → Status → Type 0
 RunCause old new before after status.Done = (new ≡ old) × (after ≡ before)
 RunCause old new before after status.Usage = (new ≡ old) × (after ≡ before)
+RunCause old new before after status.NoRoster = (new ≡ old) × (after ≡ before)
+RunCause old new before after status.Budget = (new ≡ old) × (after ≡ before)
 RunCause old new before after status.No = (new ≡ old) × (after ≡ before)
 RunCause old new before after status.BadInput = (new ≡ old) × (after ≡ before)
-RunCause old new before after status.NotYet = (new ≡ old) × (after ≡ before)
 RunCause old new before after status.Missing = Rose old.misses new.misses
 RunCause old new before after status.ReadFault = Rose old.faults new.faults
 RunCause old new before after status.TooLong = Rose old.longs new.longs

@@ -1,28 +1,31 @@
 //! The command `check`.
-ghost use Rattle.std.specs.Prelude.{◌≡◌, ◌≤◌, ◌++◌, true, [], IfOk, IfErr, OnOk, length};
+ghost use Rattle.std.specs.Prelude.{◌≡◌, ◌≤◌, ◌++◌, true, IfOk, IfErr, OnOk, length};
 ghost use Rattle.std.specs.Option.{ForSome};
-ghost use Rattle.cert_checker.specs.Awards.{PlacesFail, NamesFault};
+ghost use Rattle.cert_checker.specs.Awards.{AreAnswered, Excludes, IsFirstNo};
+ghost use Rattle.cert_checker.specs.Given.{NameBids};
 ghost use Rattle.cert_text.specs.Limits.{is_certificate};
 ghost use Rattle.month_files.specs.FileNames.{limit_of};
 ghost use Rattle.month_files.specs.declared.file.File.TheVariants.{Certificate as CertificateFile};
 ghost use Rattle.month_files.specs.Reading.{HasCause, Finds, view_texts, AreShort};
-ghost use Rattle.roster_model.specs.Awards.{IsBest, IsGreatest};
+ghost use Rattle.roster_model.specs.Awards.{IsGreatest};
+ghost use Rattle.roster_model.specs.Denials.{IsAwarded};
 ghost use Rattle.roster_model.specs.Rosters.{scores_of};
 ghost use Rattle.roster_model.specs.declared.award.Certificate.TheVariants.{Award as AwardForm};
 ghost use Rattle.shelf.specs.Logs.{Entries};
-ghost use Rattle.pbs_engine.specs.Check.{IsCheck, NamesCertificate, given_in, view_given};
+ghost use Rattle.pbs_engine.specs.Check.{IsCheck, NamesCertificate, given_in, view_given, claimed_in, view_claimed};
 ghost use Rattle.pbs_engine.specs.CheckTexts.{CheckCause};
-ghost use Rattle.pbs_engine.specs.Handed.{given_texts, IsHanded, HandedIn};
-ghost use Rattle.pbs_engine.specs.RosterText.{IsRoster};
+ghost use Rattle.pbs_engine.specs.Handed.{given_texts, claimed_texts, IsBrief, IsHanded, HandedIn};
+ghost use Rattle.roster_text.specs.RosterText.{IsRoster};
 
 use crate::check_stop::CheckStop;
-use crate::roster::read_roster;
 use crate::verdict::Verdict;
-use cert_checker::{No, judge_none, judge_places};
+use bid_score::scores_of;
+use cert_checker::{No, judge, judge_none};
 use cert_text::read_certificate;
 use duty_calendar::List;
 use month_files::{File, Texts, Unread, read_file, read_month, read_texts};
-use roster_model::{Awarded, Certificate, Problem, Roster};
+use roster_model::{Awarded, Certificate, Problem, Reasons, Roster};
+use roster_text::{read_reasons, read_roster};
 use shelf::Shelf;
 use std::alloc::Global;
 
@@ -42,27 +45,45 @@ fn read_given<S: Shelf>(alloc: Global, shelf: &mut S) -> Result<(Texts, Vec<u8>)
     Ok((texts, certificate))
 }
 
+/// The texts that are read behind the certificate of an award: the roster and the reasons.
+#[tactic(auto, unfolding(crate::specs::Check::claimed_in))]
+fn read_claimed<S: Shelf>(alloc: Global, shelf: &mut S) -> Result<(Vec<u8>, Vec<u8>), Unread>
+    ensures cause { HasCause (S.tally shelf.old) (S.tally shelf.new) result }
+    ensures told { ForSome (S.holds shelf.old) (λ files. Finds view_claimed result (claimed_in files)) }
+    ensures brief { IfOk result (λ x. IsBrief (view_claimed x)) }
+    ensures kept { S.holds shelf.new ≡ S.holds shelf.old }
+    ensures logged { IfOk result
+        (λ x. S.log shelf.new ≡ S.log shelf.old ++ claimed_texts (view_claimed x)) }
+{
+    let roster = read_file(alloc, shelf, File::Roster)?;
+    let reasons = read_file(alloc, shelf, File::Reasons)?;
+    Ok((roster, reasons))
+}
+
 /// The scores of an accepted award, or the judge's first failing test.
 fn award_scores(
     alloc: Global,
     problem: &Problem,
     roster: &Roster,
+    reasons: &Reasons,
     awarded: &Awarded,
 ) -> Result<List<u32>, No>
     requires roster { IsRoster problem.now roster.now }
+    requires bids { NameBids problem.now reasons.now }
     requires limits { is_certificate (AwardForm awarded.now) ≡ true }
-    ensures accepted { OnOk result (IsBest problem.now roster.now awarded.now.proofs) }
+    ensures accepted { OnOk result (IsAwarded problem.now roster.now reasons.now awarded.now) }
     ensures greatest { OnOk result (IsGreatest problem.now roster.now) }
+    ensures answered { OnOk result (AreAnswered problem.now roster.now reasons.now awarded.now) }
     ensures value { IfOk result (λ scores. scores ≡ scores_of problem.now roster.now) }
-    ensures first { IfErr result (PlacesFail problem.now roster.now awarded.now.proofs) }
-    ensures refused { IfErr result (λ why. NamesFault why
-        → IsBest problem.now roster.now awarded.now.proofs → ⊥) }
+    ensures first { IfErr result (IsFirstNo problem.now roster.now reasons.now awarded.now) }
+    ensures refused { Excludes result (IsAwarded problem.now roster.now reasons.now awarded.now) }
 {
-    judge_places(alloc, problem, roster, &awarded.proofs)
+    judge(alloc, problem, roster, reasons, awarded)?;
+    Ok(scores_of(alloc, problem, roster)?)
 }
 
-/// What comes of a certificate in the form of an award, over the roster in the folder.
-#[tactic(auto, using(crate::proofs::CheckLaws::cert_cause, crate::proofs::CheckLaws::roster_cause, crate::proofs::CheckLaws::judge_cause))]
+/// What comes of a certificate in the form of an award, over the roster and the reasons in the folder.
+#[tactic(auto, using(crate::proofs::CheckLaws::roster_cause, crate::proofs::CheckLaws::reasons_cause, crate::proofs::CheckLaws::judge_cause))]
 fn check_award<S: Shelf>(
     alloc: Global,
     shelf: &mut S,
@@ -77,12 +98,10 @@ fn check_award<S: Shelf>(
     ensures handed { (old : Entries) → HandedIn old (S.log shelf.old) problem.now (AwardForm awarded.now)
         → IsHanded old (S.log shelf.new) result }
 {
-    if awarded.shown.len() > 0 {
-        return Err(CheckStop::NotYet);
-    }
-    let text = read_file(alloc, shelf, File::Roster)?;
-    let roster = read_roster(alloc, problem, &text)?;
-    let scores = award_scores(alloc, problem, &roster, awarded)?;
+    let (text, reasons_text) = read_claimed(alloc, shelf)?;
+    let roster = read_roster(alloc, &text, problem)?;
+    let reasons = read_reasons(alloc, &reasons_text, problem)?;
+    let scores = award_scores(alloc, problem, &roster, &reasons, awarded)?;
     Ok(Verdict::Award(scores))
 }
 

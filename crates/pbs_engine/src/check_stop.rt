@@ -1,20 +1,22 @@
 //! Why `check` does not say yes.
 ghost use Rattle.std.specs.Prelude.{◌≡◌};
-ghost use Rattle.pbs_engine.specs.CheckEnds.{cert_stop, roster_stop, judge_stop};
+ghost use Rattle.pbs_engine.specs.CheckEnds.{cert_stop, roster_stop, reasons_stop, judge_stop};
 ghost use Rattle.pbs_engine.specs.declared.check_stop.CheckStop.TheVariants.{Unread as NotRead, BadInput as Bad, NoMemory};
 
-use crate::text_fault::TextFault;
 use cert_checker::No;
 use cert_text::{CertCode, CertFault};
 use month_files::{BadInput, Unread};
+use roster_text::{ReasonTextCode, ReasonTextFault, RosterTextCode, RosterTextFault};
 
 /// Why `check` says no.
 #[derive(Drop, Debug)]
 pub enum Refusal {
     /// The certificate is no certificate text, from this line on.
     Certificate(CertFault),
-    /// The roster is no roster text of this month.
-    Roster,
+    /// The roster is no roster's text of this month, from this row on.
+    Roster(RosterTextFault),
+    /// The reasons are no text of reasons of this month, from this line on.
+    Reasons(ReasonTextFault),
     /// The judge's first failing test.
     Judged(No),
 }
@@ -26,8 +28,6 @@ pub enum CheckStop {
     Unread(Unread),
     /// The inputs name no problem.
     BadInput(BadInput),
-    /// The certificate shows denials, which are not judged yet.
-    NotYet,
     /// The answer is no.
     No(Refusal),
     /// No memory was left.
@@ -66,13 +66,33 @@ impl From<CertFault> for CheckStop {
     }
 }
 
-impl From<TextFault> for CheckStop {
-    ghost from_gives = { λ fault e. e ≡ roster_stop fault };
+impl From<RosterTextFault> for CheckStop {
+    ghost from_gives = { λ fault e. e ≡ roster_stop fault.code fault };
 
-    fn from(fault: TextFault) -> CheckStop {
-        match fault {
-            TextFault::Unread => CheckStop::No(Refusal::Roster),
-            TextFault::NoMemory => CheckStop::NoMemory,
+    fn from(fault: RosterTextFault) -> CheckStop {
+        match fault.code {
+            RosterTextCode::NoMemory => CheckStop::NoMemory,
+            RosterTextCode::Header
+            | RosterTextCode::Shape
+            | RosterTextCode::Member
+            | RosterTextCode::Pairing
+            | RosterTextCode::Sums
+            | RosterTextCode::Rows => CheckStop::No(Refusal::Roster(fault)),
+        }
+    }
+}
+
+impl From<ReasonTextFault> for CheckStop {
+    ghost from_gives = { λ fault e. e ≡ reasons_stop fault.code fault };
+
+    fn from(fault: ReasonTextFault) -> CheckStop {
+        match fault.code {
+            ReasonTextCode::NoMemory => CheckStop::NoMemory,
+            ReasonTextCode::Shape
+            | ReasonTextCode::Member
+            | ReasonTextCode::Bid
+            | ReasonTextCode::Place
+            | ReasonTextCode::Text => CheckStop::No(Refusal::Reasons(fault)),
         }
     }
 }

@@ -4,7 +4,7 @@ ghost use Rattle.pbs_engine.specs.CheckTexts.{check_status, check_text, yes_text
 ghost use Rattle.pbs_engine.specs.Lines.{line, line_of, numbers};
 
 use crate::check_stop::{CheckStop, Refusal};
-use crate::lines::{line_text, named, numbered, put_count, put_numbers};
+use crate::lines::{line_text, numbered, put_count, put_numbers, put_vector};
 use crate::month_ends::{bad_input_text, input_status, unread_status, unread_text};
 use crate::status::Status;
 use crate::verdict::Verdict;
@@ -13,7 +13,6 @@ use duty_calendar::{List, Memory};
 use field_text::put_bytes;
 use line_legality::Illegal;
 use line_lens::LensFault;
-use month_files::File;
 use std::alloc::Global;
 
 /// How a run of `check` ends.
@@ -24,7 +23,6 @@ pub fn check_status(end: &Result<Verdict, CheckStop>) -> Status
         Ok(_) => Status::Done,
         Err(CheckStop::Unread(why)) => unread_status(*why),
         Err(CheckStop::BadInput(why)) => input_status(why),
-        Err(CheckStop::NotYet) => Status::NotYet,
         Err(CheckStop::No(_)) => Status::No,
         Err(CheckStop::NoMemory) => Status::NoMemory,
     }
@@ -159,20 +157,18 @@ fn refusal_line(alloc: Global, why: &Refusal) -> Result<List<u8>, Memory>
             b"no certificate",
             &[u64::from(fault.line), u64::from(fault.code.code())],
         ),
-        Refusal::Roster => line_text(alloc, b"no roster"),
+        Refusal::Roster(fault) => numbered(
+            alloc,
+            b"no roster",
+            &[u64::from(fault.row), u64::from(fault.code.code())],
+        ),
+        Refusal::Reasons(fault) => numbered(
+            alloc,
+            b"no reasons",
+            &[u64::from(fault.line), u64::from(fault.code.code())],
+        ),
         Refusal::Judged(no) => no_line(alloc, *no),
     }
-}
-
-/// Appends each score behind a space.
-fn put_scores(out: &mut List<u8>, scores: &[u32]) -> Result<(), Memory>
-    ensures whole { OnOk result (out.new ≡ out.old ++ numbers scores.now) }
-{
-    for score in scores {
-        put_bytes(out, b" ")?;
-        put_count(out, u64::from(*score))?;
-    }
-    Ok(())
 }
 
 /// The lines of an accepted award.
@@ -180,9 +176,7 @@ fn award_text(alloc: Global, scores: &List<u32>) -> Result<List<u8>, Memory>
     ensures value { IfOk result (λ t. t ≡ line (codes "yes") ++ line_of (codes "vector") scores.now) }
 {
     let mut out = line_text(alloc, b"yes")?;
-    put_bytes(&mut out, b"vector")?;
-    put_scores(&mut out, scores.as_slice())?;
-    put_bytes(&mut out, b"\n")?;
+    put_vector(&mut out, scores.as_slice())?;
     Ok(out)
 }
 
@@ -204,7 +198,6 @@ pub fn check_text(alloc: Global, end: &Result<Verdict, CheckStop>) -> Result<Lis
         Ok(shown) => verdict_text(alloc, shown),
         Err(CheckStop::Unread(why)) => unread_text(alloc, *why),
         Err(CheckStop::BadInput(why)) => bad_input_text(alloc, why),
-        Err(CheckStop::NotYet) => named(alloc, b"not yet ", File::Certificate),
         Err(CheckStop::No(why)) => refusal_line(alloc, why),
         Err(CheckStop::NoMemory) => Ok(List::new(alloc)),
     }

@@ -1,6 +1,9 @@
 //! What the program does: words and files in, one answer and its text out.
 #![tactic(auto)]
 
+mod award;
+mod award_stop;
+mod award_text;
 mod check;
 mod check_stop;
 mod check_text;
@@ -8,13 +11,12 @@ mod command;
 mod lines;
 mod month_ends;
 mod outcome;
-mod roster;
 mod runner;
 mod status;
 #[cfg(test)]
 mod tests;
-mod text_fault;
 mod verdict;
+mod writing;
 
 pub use runner::run;
 pub use status::Status;

@@ -2,6 +2,8 @@
 ghost use Rattle.std.specs.Prelude.{◌≡◌, IfOk};
 ghost use Rattle.pbs_engine.specs.Outcomes.{status_of, text_of};
 
+use crate::award_stop::{AwardStop, Finding};
+use crate::award_text::{award_status, award_text};
 use crate::check_stop::CheckStop;
 use crate::check_text::{check_status, check_text};
 use crate::lines::line_text;
@@ -21,6 +23,8 @@ pub enum Outcome {
     Usage,
     /// `check` came to this end.
     Check(Result<Verdict, CheckStop>),
+    /// `award` with so many nodes came to this end.
+    Award(u32, Result<Finding, AwardStop>),
 }
 
 impl Outcome {
@@ -31,6 +35,7 @@ impl Outcome {
         match self {
             Outcome::Usage => Status::Usage,
             Outcome::Check(end) => check_status(end),
+            Outcome::Award(_, end) => award_status(end),
         }
     }
 
@@ -41,6 +46,7 @@ impl Outcome {
         match self {
             Outcome::Usage => line_text(alloc, USAGE),
             Outcome::Check(end) => check_text(alloc, end),
+            Outcome::Award(_, end) => award_text(alloc, end),
         }
     }
 }

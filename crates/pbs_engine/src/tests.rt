@@ -1,22 +1,26 @@
 //! Runs over files in memory.
 
+mod awards;
 mod certificates;
 mod faults;
 mod legality;
 mod months;
 
 use crate::{Status, run};
-use bid_language::print_bids;
+use awards::*;
+use branch_log::Ledger;
 use certificates::*;
-use duty_calendar::{Copied, List};
+use completion_search::{Finding, search};
+use duty_calendar::List;
 use faults::*;
 use month_files::{read_month, read_texts};
 use months::*;
-use roster_model::{Line, Problem};
+use roster_model::{Goal, Item, Problem, Proof};
 use shelf::{MemoryShelf, MemorySink};
 use std::alloc::Global;
 use std::process::Abort;
 use std::test::Fail;
+use weight_certificates::Rounds;
 
 /// What a run printed, and how it ended.
 #[derive(Drop)]
@@ -86,6 +90,36 @@ fn assert_ends(rt: &impl Abort, outcome: &Outcome, status: Status, text: &str) {
     assert_eq!(rt; outcome.status, status, "{text}");
 }
 
+/// Says how `award` ends over the inputs of the smallest month with these files in place of its own, how what it prints
+/// begins and ends, which reasons it wrote, and what `check` then prints of what it left.
+fn assert_awards(
+    rt: &impl Abort,
+    alloc: Global,
+    (month, words, failing, status, (begins, ends), reasons, checked): &Awarded,
+) -> Result<(), Fail> {
+    let mut shelf = MemoryShelf::new(alloc, List::from_vec(failing.to_vec(alloc)?));
+    place_all(rt, alloc, &mut shelf, &SMALLEST[..8])?;
+    place_all(rt, alloc, &mut shelf, month)?;
+    let outcome = run_over(alloc, words, &mut shelf, &[])?;
+    assert!(rt; outcome.text.starts_with(*begins), "{}", outcome.text);
+    assert!(rt; outcome.text.ends_with(*ends), "{}", outcome.text);
+    assert_eq!(rt; outcome.status, *status);
+    if let Some(reasons) = reasons {
+        assert_eq!(rt; shelf.file("reasons.txt"), Some(*reasons));
+    }
+    let outcome = run_over(alloc, &["check"], &mut shelf, &[])?;
+    assert_eq!(rt; outcome.text.as_str(), *checked);
+    Ok(())
+}
+
+#[test]
+fn months_are_awarded(rt: HostRuntime) -> Result<(), Fail> {
+    for month in &AWARDED {
+        assert_awards(&rt, rt.alloc(), month)?;
+    }
+    Ok(())
+}
+
 /// Says what `check` prints of the smallest month with these files in place of its own.
 fn assert_checks(
     rt: &impl Abort,
@@ -139,7 +173,6 @@ fn assert_cases(
 fn due_status(text: &str) -> Status {
     match text.as_bytes() {
         [b'y', ..] => Status::Done,
-        [b'n', b'o', b't', ..] => Status::NotYet,
         _ => Status::No,
     }
 }
@@ -160,32 +193,16 @@ fn lines_are_priced(rt: HostRuntime) -> Result<(), Fail> {
 }
 
 #[test]
-fn denials_are_not_judged_yet(rt: HostRuntime) -> Result<(), Fail> {
-    let alloc = rt.alloc();
-    assert_cases(&rt, alloc, &[], &LATER)?;
-    assert_cases(
-        &rt,
-        alloc,
-        &SENIORITY,
-        &[
-            (SHOWN, "not yet certificate.txt\n"),
-            (SHOWN_TWICE_ENDED, "no certificate 17 5\n"),
-        ],
-    )
-}
-
-#[test]
-fn cut_certificates_are_short(rt: HostRuntime) -> Result<(), Fail> {
-    let alloc = rt.alloc();
-    let mut line: u32 = 1;
-    for (at, byte) in SHOWN.iter().enumerate() {
-        let text = format!(in alloc; "no certificate {line} 4\n")?;
-        let changed = [("certificate.txt", &SHOWN[..at])];
-        let outcome = outcome_of(&rt, alloc, &["check"], &SMALLEST, &changed, (&[], &[]))?;
-        assert_ends(&rt, &outcome, Status::No, &text);
-        if *byte == b'\n' {
-            line = line.saturating_add(1);
-        }
+fn denials_are_judged(rt: HostRuntime) -> Result<(), Fail> {
+    for (reasons, certificate, text) in &DENIED {
+        let changed = [
+            SENIORITY[0],
+            SENIORITY[1],
+            SENIORITY[2],
+            ("certificate.txt", *certificate),
+            ("reasons.txt", *reasons),
+        ];
+        assert_checks(&rt, rt.alloc(), &changed, due_status(text), text)?;
     }
     Ok(())
 }
@@ -231,7 +248,7 @@ fn lines_and_covers_are_judged(rt: HostRuntime) -> Result<(), Fail> {
     for (changed, status, text) in [
         (SECOND_DUTY.as_slice(), Status::Done, "yes\nvector 10\n"),
         (SENIORITY.as_slice(), Status::Done, "yes\nvector 10 0\n"),
-        (ROWS_TURNED.as_slice(), Status::No, "no roster\n"),
+        (ROWS_TURNED.as_slice(), Status::No, "no roster 2 3\n"),
         (JUNIOR_FLIES.as_slice(), Status::No, "no 4 1 2 5\n"),
         (BOTH_FLY.as_slice(), Status::No, "no 2 1 2\n"),
         (SIXTY_HOURS.as_slice(), Status::Done, "yes\nvector 0\n"),
@@ -335,7 +352,7 @@ fn wishes_are_granted(rt: HostRuntime) -> Result<(), Fail> {
     for wish in &GRANTS {
         let (due, other) = if wish.3 { (10, 0) } else { (0, 10) };
         assert_wish(&rt, rt.alloc(), wish, due, "no 5 1\n")?;
-        assert_wish(&rt, rt.alloc(), wish, other, "no roster\n")?;
+        assert_wish(&rt, rt.alloc(), wish, other, "no roster 2 5\n")?;
     }
     Ok(())
 }
@@ -392,33 +409,6 @@ fn words_are_a_command(rt: HostRuntime) -> Result<(), Fail> {
     Ok(())
 }
 
-/// Says what `check` prints where the one member has so many bids of weight 1.
-fn assert_bids(
-    rt: &impl Abort,
-    alloc: Global,
-    bids: u32,
-    status: Status,
-    text: &str,
-) -> Result<(), Fail> {
-    let mut lines = String::from_str(alloc, "member M1\n")?;
-    for _bid in 0..bids {
-        lines.push_str("1 fly P1\n")?;
-    }
-    let roster = format!(in alloc; "member,pairings,credit,score\nM1,P1,5:00,{bids}\n")?;
-    let changed = [
-        ("bids.txt", lines.as_bytes()),
-        ("roster.csv", roster.as_bytes()),
-    ];
-    assert_checks(rt, alloc, &changed, status, text)
-}
-
-#[test]
-fn sixty_four_bids_are_read(rt: HostRuntime) -> Result<(), Fail> {
-    let alloc = rt.alloc();
-    assert_bids(&rt, alloc, 64, Status::Done, "yes\nvector 64\n")?;
-    assert_bids(&rt, alloc, 65, Status::BadInput, "bad bids.txt 66 1 8\n")
-}
-
 /// The smallest month with these files in place of its own.
 fn month_with(rt: &impl Abort, alloc: Global, changed: &[(&str, &[u8])]) -> Result<Problem, Fail> {
     let mut shelf = MemoryShelf::new(alloc, List::new(alloc));
@@ -434,21 +424,61 @@ fn month_with(rt: &impl Abort, alloc: Global, changed: &[(&str, &[u8])]) -> Resu
     )
 }
 
-#[test]
-fn bids_are_printed(rt: HostRuntime) -> Result<(), Fail> {
-    let alloc = rt.alloc();
-    for (bids, text) in &PRINTED {
-        let problem = month_with(&rt, alloc, &[("bids.txt", *bids)])?;
-        let printed = print_bids(alloc, &problem)?;
-        assert_eq!(rt; printed.as_slice(), *text);
+/// How a search ends: found, refuted or spent.
+#[derive(Clone, Copy, Debug, PartialEq, Eq)]
+enum Ended {
+    Found,
+    Refuted,
+    Spent,
+}
+
+/// How a search for a roster of the month with these floors ends, how many entries its ledger has then, and how many items
+/// and splits the proof has.
+fn searched(
+    rt: &impl Abort,
+    alloc: Global,
+    problem: &Problem,
+    floors: &[u32],
+    cap: u32,
+) -> Result<(Ended, u32, usize, usize), Fail> {
+    let goal = match floors.split_last() {
+        Some((floor, before)) => Goal::reaching(alloc, before, *floor)?,
+        None => Goal::new(alloc),
+    };
+    assert!(rt; goal.floors.len() <= problem.base.members.len());
+    let mut closer = Rounds::new(alloc, problem, 400)?;
+    let mut ledger = Ledger::new(alloc, cap, 400)?;
+    let found = search(alloc, problem, &mut closer, &goal, &mut ledger)?;
+    let entries = ledger.len();
+    match found {
+        Finding::Found(_roster) => Ok((Ended::Found, entries, 0, 0)),
+        Finding::Refuted(proof) => { Ok((Ended::Refuted, entries, proof.len(), splits_of(&proof))) }
+        Finding::Spent => Ok((Ended::Spent, entries, 0, 0)),
     }
-    Ok(())
+}
+
+/// How many items of a proof are splits.
+fn splits_of(proof: &Proof) -> usize {
+    let mut splits: usize = 0;
+    for item in proof.as_slice() {
+        if let Item::Split(_, _) = item {
+            splits = splits.saturating_add(1);
+        }
+    }
+    splits
 }
 
 #[test]
-fn a_line_is_copied(rt: HostRuntime) -> Result<(), Fail> {
+fn searches_count_open_nodes(rt: HostRuntime) -> Result<(), Fail> {
     let alloc = rt.alloc();
-    let line = Line::new(List::from_vec([2, 3, 5].to_vec(alloc)?)).expect(&rt, "it ascends");
-    assert_eq!(rt; line.copy(alloc)?, line);
+    let problem = month_with(&rt, alloc, &BRANCHING)?;
+    let spent = searched(&rt, alloc, &problem, &[10, 1], 1)?;
+    assert_eq!(rt; spent, (Ended::Spent, 1, 0, 0));
+    let (ended, entries, _, splits) = searched(&rt, alloc, &problem, &[10, 1], 20_000)?;
+    assert_eq!(rt; ended, Ended::Refuted);
+    assert!(rt; entries < 20_000 && splits <= entries as usize);
+    let problem = month_with(&rt, alloc, &THREE_WANTED)?;
+    let closed = searched(&rt, alloc, &problem, &[], 1)?;
+    assert_eq!(rt; closed, (Ended::Refuted, 0, 1, 0));
     Ok(())
 }

@@ -144,15 +144,17 @@ pub const MISSPELT: [Case; 10] = [
     (b"shown\n", "no certificate 1 1\n"),
 ];
 
-/// Certificates of the month in which two members bid for one pairing. At the second place each lens line has the pairing, so that the lines weigh twice as much as the need.
+/// Certificates of the month in which two members bid for one pairing. At the second place each lens line has the pairing,
+/// so that the lines weigh twice as much as the need. Where the places are closed, it is the part for the reason that is
+/// missing.
 pub const RIVALS: [Case; 14] = [
     (
         b"pbs-certificate 1\naward 2 0\nproof 1\nnoline 1 60 0000000000000000 0 0\nproof 1\nweights 2 -1\nlens 60 0000000000000001 0 0\nlens 60 0000000000000001 0 0\nend\n",
-        "yes\nvector 10 0\n",
+        "no 3 0\n",
     ),
     (
         b"pbs-certificate 1\naward 2 0\nproof 1\nnoline 1 60 0000000000000000 0 0\nproof 1\nweights 2 -2147483647\nlens 60 0000000000000001 0 0\nlens 60 0000000000000001 0 0\nend\n",
-        "yes\nvector 10 0\n",
+        "no 3 0\n",
     ),
     (
         b"pbs-certificate 1\naward 2 0\nproof 1\nnoline 1 60 0000000000000000 0 0\nproof 1\nweights 2 0\nlens 60 0000000000000001 0 0\nlens 60 0000000000000001 0 0\nend\n",
@@ -200,17 +202,36 @@ pub const RIVALS: [Case; 14] = [
     ),
     (
         b"pbs-certificate 1\naward 2 0\nproof 1\nnoline 1 60 0000000000000000 0 0\nproof 3\nsplit 1 1\nweights 2 -1\nlens 60 0000000000000001 0 0\nlens 60 0000000000000001 0 0\nnoline 1 60 0000000000000001 0 0\nend\n",
-        "yes\nvector 10 0\n",
+        "no 3 0\n",
     ),
 ];
 
-/// The certificate of that award with its denial, which reads, and is not judged yet.
+/// The certificate of that award with what shows its reason.
 pub const SHOWN: &[u8] =
     b"pbs-certificate 1\naward 2 1\nproof 1\nnoline 1 60 0000000000000000 0 0\nproof 1\nweights 2 -1\nlens 60 0000000000000001 0 0\nlens 60 0000000000000001 0 0\nshown 1 2\nproof 1\nweights 2 -1\nlens 60 0000000000000001 0 0\nlens 60 0000000000000001 0 0\nline\nline 1\nend\n";
 
-/// The same with one more line behind its end.
-pub const SHOWN_TWICE_ENDED: &[u8] =
-    b"pbs-certificate 1\naward 2 1\nproof 1\nnoline 1 60 0000000000000000 0 0\nproof 1\nweights 2 -1\nlens 60 0000000000000001 0 0\nlens 60 0000000000000001 0 0\nshown 1 2\nproof 1\nweights 2 -1\nlens 60 0000000000000001 0 0\nlens 60 0000000000000001 0 0\nline\nline 1\nend\nend\n";
+/// Reasons and certificates of that award, and what `check` then prints.
+pub const DENIED: [(&[u8], &[u8], &str); 7] = [
+    (b"M2 1 place 1 M1: 10 fly P1\n", SHOWN, "yes\nvector 10 0\n"),
+    (b"M2 1 place 2 M2: 10 fly P1\n", SHOWN, "no 7 2 1\n"),
+    (b"M1 1 place 1 M1: 10 fly P1\n", SHOWN, "no 6 1 1\n"),
+    (b"M2 2 place 1 M1: 10 fly P1\n", SHOWN, "no reasons 1 3\n"),
+    (
+        b"",
+        b"pbs-certificate 1\naward 2 0\nproof 1\nnoline 1 60 0000000000000000 0 0\nproof 1\nweights 2 -1\nlens 60 0000000000000001 0 0\nlens 60 0000000000000001 0 0\nend\n",
+        "no 6 2 1\n",
+    ),
+    (
+        b"M2 1 place 1 M1: 10 fly P1\n",
+        b"pbs-certificate 1\naward 2 1\nproof 1\nnoline 1 60 0000000000000000 0 0\nproof 1\nweights 2 -1\nlens 60 0000000000000001 0 0\nlens 60 0000000000000001 0 0\nshown 1 2\nproof 1\nweights 2 0\nlens 60 0000000000000001 0 0\nlens 60 0000000000000001 0 0\nline\nline 1\nend\n",
+        "no 4 3 1 9 0 0\n",
+    ),
+    (
+        b"M2 1 tie: 10 fly P1\n",
+        b"pbs-certificate 1\naward 2 1\nproof 1\nnoline 1 60 0000000000000000 0 0\nproof 1\nweights 2 -1\nlens 60 0000000000000001 0 0\nlens 60 0000000000000001 0 0\nshown 0 2\nline\nline 1\nend\n",
+        "no 7 2 1\n",
+    ),
+];
 
 /// Certificates of the month in which the one bid can't be tracked.
 pub const UNTRACKED: [Case; 3] = [
@@ -223,24 +244,8 @@ pub const UNTRACKED: [Case; 3] = [
         "no 4 1 1 7 1\n",
     ),
     (
-        b"pbs-certificate 1\naward 1 0\nproof 3\nsplit 1 1\nfixed 1\nfixed 1\nend\n",
+        b"pbs-certificate 1\naward 1 1\nproof 3\nsplit 1 1\nfixed 1\nfixed 1\nshown 1 0\nproof 3\nsplit 1 1\nfixed 1\nfixed 1\nend\n",
         "yes\nvector 0\n",
-    ),
-];
-
-/// Certificates of an award with denials, of whatever is shown for them.
-pub const LATER: [Case; 3] = [
-    (
-        b"pbs-certificate 1\naward 1 1\nproof 0\nshown 0 0\nend\n",
-        "not yet certificate.txt\n",
-    ),
-    (
-        b"pbs-certificate 1\naward 0 1\nshown 1 1\nproof 0\nline\nend\n",
-        "not yet certificate.txt\n",
-    ),
-    (
-        b"pbs-certificate 1\naward 1 2\nproof 1\ncount 1\nshown 0 0\nshown 0 1\nline 1 2\nend\n",
-        "not yet certificate.txt\n",
     ),
 ];
 

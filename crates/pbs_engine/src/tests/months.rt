@@ -1,10 +1,12 @@
 //! The months of the tests: whole files as a shelf holds them.
 
+use super::certificates::SHOWN;
+
 /// A file in place of the smallest month's own, and what `check` then prints.
 pub type Row = (&'static str, &'static [u8], &'static str);
 
 /// One member, who bids for the one pairing and flies it, in the order in which a run reads.
-pub const SMALLEST: [(&str, &[u8]); 10] = [
+pub const SMALLEST: [(&str, &[u8]); 11] = [
     (
         "rules.toml",
         b"base = \"DUB\"\nseat = \"FO\"\nyear = 2026\nmonth = 6\noffset = 0\ndays_off = 0\n",
@@ -36,6 +38,7 @@ pub const SMALLEST: [(&str, &[u8]); 10] = [
         "roster.csv",
         b"member,pairings,credit,score\nM1,P1,5:00,10\n",
     ),
+    ("reasons.txt", b""),
 ];
 
 /// Other spellings of the smallest month, and events that leave just the rest that is due.
@@ -90,29 +93,28 @@ pub const SECOND_DUTY: [(&str, &[u8]); 2] = [
 ];
 
 /// Two members bid for the one pairing, and the senior one flies it.
-pub const SENIORITY: [(&str, &[u8]); 4] = [
+pub const SENIORITY: [(&str, &[u8]); 5] = [
     (
         "crew.csv",
         b"member,low,high\nM1,0:00,90:00\nM2,0:00,90:00\n",
     ),
     ("bids.txt", b"member M1\n10 fly P1\nmember M2\n10 fly P1\n"),
     (
-        "certificate.txt",
-        b"pbs-certificate 1\naward 2 0\nproof 3\nsplit 1 1\nfixed 1\nfixed 1\nproof 5\nsplit 1 1\nsplit 2 1\ncount 1\nfixed 2\nfixed 1\nend\n",
-    ),
-    (
         "roster.csv",
         b"member,pairings,credit,score\nM1,P1,5:00,10\nM2,,0:00,0\n",
     ),
+    ("certificate.txt", SHOWN),
+    ("reasons.txt", b"M2 1 place 1 M1: 10 fly P1\n"),
 ];
 
 /// The one bid asks for two pairings, so that it can't be tracked, and there is one.
-pub const TWO_WANTED: [(&str, &[u8]); 2] = [
+pub const TWO_WANTED: [(&str, &[u8]); 3] = [
     ("bids.txt", b"member M1\n10 prefer 2 days 1\n"),
     (
         "roster.csv",
         b"member,pairings,credit,score\nM1,P1,5:00,0\n",
     ),
+    ("reasons.txt", b"M1 1 place 0: 10 prefer 2 days 1\n"),
 ];
 
 /// The two members are to crew a pairing of three, and no roster is there.
@@ -276,7 +278,7 @@ pub const NINTH: [(&str, &[u8]); 3] = [
 ];
 
 /// Two members and four pairings of two days, without bids and roster.
-pub const WISHES: [(&str, &[u8]); 8] = [
+pub const WISHES: [(&str, &[u8]); 9] = [
     (
         "rules.toml",
         b"base = \"DUB\"\nseat = \"FO\"\nyear = 2026\nmonth = 6\noffset = 0\ndays_off = 0\n",
@@ -309,6 +311,7 @@ pub const WISHES: [(&str, &[u8]); 8] = [
         "certificate.txt",
         b"pbs-certificate 1\naward 2 0\nproof 0\nproof 0\nend\n",
     ),
+    ("reasons.txt", b""),
 ];
 
 /// One member with a history, a leave, a ground duty and a flight, and eight pairings.

@@ -1,9 +1,0 @@
-use Rattle.std.proofs.Common.{◌≡◌, ◌-◌, length}
-use Rattle.pbs_engine.specs.RosterReading.{rows_at}
-use Rattle.pbs_engine.proofs.Several.{with_front}
-use Rattle.pbs_engine.proofs.roster.rows_of.Given as goal
-
-abbrev pub invariant-loop-member : goal.invariant-loop-member
-invariant-loop-member l =
-    with_front l.roster (rows_at l.problem l.member (length l.problem.base.members - l.member) l.rest)
-    ≡ rows_at l.problem 0 (length l.problem.base.members) l.bytes

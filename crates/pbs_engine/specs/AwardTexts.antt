@@ -1,0 +1,82 @@
+-- How a run of `award` ends, what it prints and writes, and which change of the shelf's counts it comes with.
+use Rattle.std.specs.Prelude.{◌≡◌, ℕ, List, [], ◌∷◌, ◌++◌, codes, Result, Ok, Err}
+use Rattle.shelf.specs.declared.tally.Tally.{Tally}
+use Rattle.month_files.specs.FileNames.{name_of}
+use Rattle.month_files.specs.Reading.{UnreadCause}
+use Rattle.pbs_engine.specs.declared.award_stop.AwardStop.{AwardStop}
+use Rattle.pbs_engine.specs.declared.award_stop.AwardStop.TheVariants as stop
+use Rattle.pbs_engine.specs.declared.award_stop.Finding.{Finding}
+use Rattle.pbs_engine.specs.declared.award_stop.Found.{Found}
+use Rattle.pbs_engine.specs.declared.award_stop.Found.TheVariants as found
+use Rattle.pbs_engine.specs.declared.status.Status.{Status}
+use Rattle.pbs_engine.specs.declared.status.Status.TheVariants as status
+use Rattle.pbs_engine.specs.declared.writing.Unwritten.{Unwritten}
+use Rattle.pbs_engine.specs.declared.writing.WriteStop.{WriteStop}
+use Rattle.pbs_engine.specs.declared.writing.WriteStop.TheVariants as write
+use Rattle.pbs_engine.specs.Lines.{line, line_of}
+use Rattle.pbs_engine.specs.MonthEnds.{unread_status, unread_text, input_status, bad_input_text}
+use Rattle.pbs_engine.specs.Writes.{Written, nothing_written, written, StopCause}
+
+abbrev pub write_status : WriteStop → Status
+write_status write.Fault = status.WriteFault
+write_status write.NoMemory = status.NoMemory
+
+abbrev pub found_status : Found → Status
+found_status (found.Award scores denied) = status.Done
+found_status found.NoRoster = status.NoRoster
+
+abbrev pub award_status : Result Finding AwardStop → Status
+award_status (Ok f) = found_status f.found
+award_status (Err (stop.Unread why)) = unread_status why
+award_status (Err (stop.BadInput why)) = input_status why
+award_status (Err (stop.Budget nodes)) = status.Budget
+award_status (Err (stop.Unwritten f u)) = write_status u.why
+award_status (Err stop.NoMemory) = status.NoMemory
+
+abbrev pub AwardCause : Tally → Tally → Result Finding AwardStop → Type 0
+AwardCause old new (Ok f) = new ≡ old
+AwardCause old new (Err (stop.Unread why)) = UnreadCause old new why
+AwardCause old new (Err (stop.BadInput why)) = new ≡ old
+AwardCause old new (Err (stop.Budget nodes)) = new ≡ old
+AwardCause old new (Err (stop.Unwritten f u)) = StopCause (name_of u.file) old new u.why
+AwardCause old new (Err stop.NoMemory) = new ≡ old
+
+-- the files that are written: all that say what was found, or those before the one that was not written
+abbrev pub award_written : Result Finding AwardStop → Written
+award_written (Ok f) = written f.drafts (Ok tt)
+award_written (Err (stop.Unread why)) = nothing_written
+award_written (Err (stop.BadInput why)) = nothing_written
+award_written (Err (stop.Budget nodes)) = nothing_written
+award_written (Err (stop.Unwritten f u)) = written f.drafts (Err u)
+award_written (Err stop.NoMemory) = nothing_written
+
+-- the award, or that there is none
+abbrev pub first_text : Found → List ℕ
+first_text (found.Award scores denied) = line (codes "award") ++ line_of (codes "vector") scores
+first_text found.NoRoster = line (codes "no roster")
+
+-- how many bids an award denies
+abbrev pub last_text : Found → List ℕ
+last_text (found.Award scores denied) = line_of (codes "denials") (denied ∷ [])
+last_text found.NoRoster = []
+
+abbrev pub lines_of : Found → ℕ → List ℕ
+lines_of w nodes = (first_text w ++ line_of (codes "nodes") (nodes ∷ [])) ++ last_text w
+
+abbrev pub found_text : Finding → List ℕ
+found_text f = lines_of f.found f.nodes
+
+abbrev pub stop_text : Unwritten → WriteStop → List ℕ
+stop_text u write.Fault = line (codes "write fault " ++ name_of u.file)
+stop_text u write.NoMemory = []
+
+abbrev pub unwritten_text : Unwritten → List ℕ
+unwritten_text u = stop_text u (u.why)
+
+abbrev pub award_text : Result Finding AwardStop → List ℕ
+award_text (Ok f) = found_text f
+award_text (Err (stop.Unread why)) = unread_text why
+award_text (Err (stop.BadInput why)) = bad_input_text why
+award_text (Err (stop.Budget nodes)) = line_of (codes "budget") (nodes ∷ [])
+award_text (Err (stop.Unwritten f u)) = unwritten_text u
+award_text (Err stop.NoMemory) = []
