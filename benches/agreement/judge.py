@@ -1,13 +1,16 @@
 """The judge of certificates, by the rules of docs/FORMATS.md. Members, pairings and bids count from 0 here.
 
 A lens is (grain, tracked, free30, days, windows), a node a tuple of decisions (member, pairing, flies), and an item one
-of ("split", m, p), ("count", p), ("fixed", m), ("noline", m, lens) and ("weights", weights, lenses).
+of ("split", m, p), ("count", p), ("fixed", m), ("noline", m, lens) and ("weights", weights, lenses). A bid is
+(member, number), a reason (bid, place) with None as the place of a tie, and a shown part (items, roster), either None.
 """
+import collections
 import itertools
 
 import law
 
 WIDTHS = {"f672": 40_320, "d672": 40_320, "d168": 10_080}
+Goal = collections.namedtuple("Goal", "floors grant", defaults=(None,))
 MOST = {"f672": 6_000, "d672": 11_400, "d168": 3_600, "f365": 60_000}
 
 
@@ -52,8 +55,14 @@ def lens_score(month, member, tracked, line):
     )
 
 
-def passes(month, m, floors, node, lens, line):
-    member = month.members[m]
+def grants(month, bid, line):
+    """Whether the line of the bid's member grants it."""
+    member = month.members[bid[0]]
+    return law.is_granted(month, member, member.bids[bid[1]][1], line)
+
+
+def passes(month, m, goal, node, lens, line):
+    member, (floors, grant) = month.members[m], goal
     grain, tracked, free30, days, windows = lens
     fixed = sum(e.credit for e in member.fixed)
     down = fixed + sum(month.pairings[p].credit // grain * grain for p in line)
@@ -65,27 +74,28 @@ def passes(month, m, floors, node, lens, line):
         and down <= member.high
         and member.low <= up
         and (m >= len(floors) or floors[m] <= lens_score(month, member, tracked, line))
+        and (grant is None or grant[0] != m or not tracked >> grant[1] & 1 or grants(month, grant, line))
         and not (free30 and law.no_free_block(month, member, line) is not None)
         and not (days and law.days_off(month, member, line) < month.days_off)
         and all(keeps(month, member, line, *window) for window in windows)
     )
 
 
-def lens_lines(month, m, floors, node, lens):
-    return [line for line in lines(month) if passes(month, m, floors, node, lens, line)]
+def lens_lines(month, m, goal, node, lens):
+    return [line for line in lines(month) if passes(month, m, goal, node, lens, line)]
 
 
 def decided(node, m, p):
     return next((flies for of, pairing, flies in node if (of, pairing) == (m, p)), None)
 
 
-def split_fault(month, floors, node, m, p):
+def split_fault(month, goal, node, m, p):
     if m >= len(month.members) or p >= len(month.pairings):
         return [1]
     return None if decided(node, m, p) is None else [2]
 
 
-def count_fault(month, floors, node, p):
+def count_fault(month, goal, node, p):
     if p >= len(month.pairings):
         return [1]
     decisions = [decided(node, m, p) for m in range(len(month.members))]
@@ -94,7 +104,7 @@ def count_fault(month, floors, node, p):
     return None if miscrewed else [3]
 
 
-def fixed_fault(month, floors, node, m):
+def fixed_fault(month, goal, node, m):
     if m >= len(month.members):
         return [1]
     decisions = [decided(node, m, p) for p in range(len(month.pairings))]
@@ -103,20 +113,21 @@ def fixed_fault(month, floors, node, m):
     line = tuple(p for p, flies in enumerate(decisions) if flies)
     member = month.members[m]
     serves = law.illegality(month, member, line) is None
-    serves = serves and (m >= len(floors) or floors[m] <= law.score(month, member, line))
+    serves = serves and (m >= len(goal.floors) or goal.floors[m] <= law.score(month, member, line))
+    serves = serves and (goal.grant is None or goal.grant[0] != m or grants(month, goal.grant, line))
     return [5] if serves else None
 
 
-def noline_fault(month, floors, node, m, lens):
+def noline_fault(month, goal, node, m, lens):
     if m >= len(month.members):
         return [1]
     shape = lens_fault(month.members[m], lens)
     if shape:
         return [6, m + 1] + shape
-    return [7, m + 1] if lens_lines(month, m, floors, node, lens) else None
+    return [7, m + 1] if lens_lines(month, m, goal, node, lens) else None
 
 
-def weights_fault(month, floors, node, weights, lenses):
+def weights_fault(month, goal, node, weights, lenses):
     if len(weights) != len(month.pairings) or len(lenses) != len(month.members):
         return [10, len(weights), len(lenses)]
     for m, lens in enumerate(lenses):
@@ -125,7 +136,7 @@ def weights_fault(month, floors, node, weights, lenses):
             return [6, m + 1] + shape
     together = 0
     for m, lens in enumerate(lenses):
-        found = lens_lines(month, m, floors, node, lens)
+        found = lens_lines(month, m, goal, node, lens)
         if not found:
             return [8, m + 1]
         together += max(sum(weights[p] for p in line) for line in found)
@@ -142,18 +153,18 @@ FAULTS = {
 }
 
 
-def item_fault(month, floors, node, item):
-    return FAULTS[item[0]](month, floors, node, *item[1:])
+def item_fault(month, goal, node, item):
+    return FAULTS[item[0]](month, goal, node, *item[1:])
 
 
-def proof_fault(month, floors, number, items):
+def proof_fault(month, goal, number, items):
     """What is printed of the proof of this number where it does not close the goal, else None."""
     pending = [()]
     for at, item in enumerate(items):
         if not pending:
             return [5, number]
         node = pending.pop()
-        fault = item_fault(month, floors, node, item)
+        fault = item_fault(month, goal, node, item)
         if fault:
             return [4, number, at + 1] + fault
         if item[0] == "split":
@@ -174,7 +185,11 @@ def roster_fault(month, roster):
 
 
 def goal_above(scores, place):
-    return scores[:place] + [scores[place] + 1]
+    return Goal(scores[:place] + [scores[place] + 1])
+
+
+def goal_granting(scores, place, bid):
+    return Goal(scores[: place or 0], bid)
 
 
 def award_fault(month, roster, scores, proofs):
@@ -186,12 +201,65 @@ def award_fault(month, roster, scores, proofs):
     return fault
 
 
-def best_roster(month):
-    """The greatest vector and a roster that has it, found by trying all, or None."""
+def bids(month):
+    return [(m, b) for m, member in enumerate(month.members) for b in range(len(member.bids))]
+
+
+def list_fault(month, roster, reasons):
+    """The first bid at which the reasons are wrong as a list, as what is printed, or None."""
+    for bid in bids(month):
+        places = [at for at, (of, _) in enumerate(reasons) if of == bid]
+        misplaced = any(reasons[before][0] >= bid for at in places for before in range(at))
+        past = any((reasons[at][1] or 0) > len(month.members) for at in places)
+        if misplaced or past or bool(places) == grants(month, bid, roster[bid[0]]):
+            return [6, bid[0] + 1, bid[1] + 1]
+    return None
+
+
+def serves(month, scores, bid, place, roster):
+    """Whether the roster is one to be shown for the bid and the place."""
+    if len(roster) != len(month.members) or any(p >= len(month.pairings) for line in roster for p in line):
+        return False
+    if roster_fault(month, roster) or not grants(month, bid, roster[bid[0]]):
+        return False
+    found = [law.score(month, member, line) for member, line in zip(month.members, roster)]
+    if place is None:
+        return found == scores
+    return all(ours <= theirs for ours, theirs in zip(scores[: place - 1], found))
+
+
+def reason_fault(month, scores, number, reason, part):
+    (bid, place), (items, roster) = reason, part
+    shown = [7, bid[0] + 1, bid[1] + 1]
+    if (items is None) != (place is None) or (roster is None) != (place == 0):
+        return shown
+    fault = items is not None and proof_fault(month, goal_granting(scores, place, bid), number, items)
+    if fault:
+        return fault
+    return None if roster is None or serves(month, scores, bid, place, roster) else shown
+
+
+def denials_fault(month, roster, scores, reasons, shown):
+    fault = [3, len(shown)] if len(shown) != len(reasons) else list_fault(month, roster, reasons)
+    for at, (reason, part) in enumerate(zip(reasons, shown)):
+        fault = fault or reason_fault(month, scores, len(month.members) + at + 1, reason, part)
+    return fault
+
+
+def rosters(month):
+    """All complete rosters with their vectors."""
     legal = [[line for line in lines(month) if not law.illegality(month, m, line)] for m in month.members]
-    found = [
+    return [
         ([law.score(month, m, line) for m, line in zip(month.members, roster)], roster)
         for roster in itertools.product(*legal)
         if not roster_fault(month, roster)
     ]
-    return max(found, default=None)
+
+
+def true_reason(found, month, scores, bid):
+    """The place of the bid by all complete rosters, and the greatest of them that grants it, where the scores are greatest."""
+    granting = [each for each in found if grants(month, bid, each[1][bid[0]])]
+    if not granting:
+        return 0, None
+    vector, roster = max(granting)
+    return next((m + 1 for m, score in enumerate(vector) if score != scores[m]), None), roster

@@ -184,6 +184,16 @@ def roster_text(month, roster, scores):
     return text
 
 
+def reasons_text(month, reasons):
+    text = ""
+    for (m, b), place in reasons:
+        member = month.members[m]
+        weight, wish = member.bids[b]
+        named = f"place {place} {month.members[place - 1].name}" if place else "place 0"
+        text += f"{member.name} {b + 1} {'tie' if place is None else named}: {weight} {wish_text(*wish)}\n"
+    return text
+
+
 def lens_text(lens):
     grain, tracked, free30, days, windows = lens
     words = [str(grain), f"{tracked:016x}", str(int(free30)), str(int(days))]
@@ -204,8 +214,15 @@ def proof_text(items):
     return f"proof {len(items)}\n" + "".join(item_text(*item) for item in items)
 
 
-def certificate_text(form, proofs):
-    return f"pbs-certificate 1\n{form}\n" + "".join(proof_text(items) for items in proofs) + "end\n"
+def part_text(items, roster):
+    proofs = [] if items is None else [items]
+    rows = "".join(" ".join(["line", *(str(p + 1) for p in line)]) + "\n" for line in roster or [])
+    return f"shown {len(proofs)} {len(roster or [])}\n" + "".join(map(proof_text, proofs)) + rows
+
+
+def certificate_text(form, proofs, shown=()):
+    text = f"pbs-certificate 1\n{form}\n" + "".join(proof_text(items) for items in proofs)
+    return text + "".join(part_text(*part) for part in shown) + "end\n"
 
 
 # ---- proofs
@@ -251,16 +268,16 @@ def leaf(pick, month):
     return word, weights, lenses
 
 
-def proof(pick, month, floors, node=(), depth=4):
+def proof(pick, month, goal, node=(), depth=4):
     """Items that close the goal where some are found, and else end in one that does not."""
     for _ in range(12):
         item = leaf(pick, month)
-        if judge.item_fault(month, floors, node, item) is None:
+        if judge.item_fault(month, goal, node, item) is None:
             return [item]
     crew, trips = range(len(month.members)), range(len(month.pairings))
     pairs = [(m, p) for m in crew for p in trips if judge.decided(node, m, p) is None]
     if depth == 0 or not pairs:
         return [leaf(pick, month)]
     m, p = pick.choice(pairs)
-    flown = proof(pick, month, floors, node + ((m, p, True),), depth - 1)
-    return [("split", m, p)] + flown + proof(pick, month, floors, node + ((m, p, False),), depth - 1)
+    flown = proof(pick, month, goal, node + ((m, p, True),), depth - 1)
+    return [("split", m, p)] + flown + proof(pick, month, goal, node + ((m, p, False),), depth - 1)

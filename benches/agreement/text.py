@@ -132,25 +132,27 @@ class Reader:
             self.proof()
         for _ in range(denials):
             self.shown()
-        return denials
 
     def whole(self):
-        """How many denials are shown, and None without a roster."""
         self.version()
         first, words = self.next("award", "none")
-        denials = self.award(words) if first == "award" else self.bare(words) or self.proof()
+        if first == "award":
+            self.award(words)
+        else:
+            self.bare(words)
+            self.proof()
         _, words = self.next("end")
         self.bare(words)
         if self.rest:
             self.line += 1
             raise Fault(TRAILING)
-        return denials
 
 
 def read(text):
-    """The line and code of the fault, or None, and how many denials are shown."""
+    """The line and code of the fault, or None."""
     reader = Reader(text)
     try:
-        return None, reader.whole()
+        reader.whole()
     except Fault as fault:
-        return (reader.line, fault.args[0]), None
+        return reader.line, fault.args[0]
+    return None
