@@ -11,8 +11,8 @@ use line_legality::{Illegal, legal};
 use roster_model::{Goal, Line, Problem};
 use std::alloc::Global;
 
-/// What is known of a kept line: its pairings, its bids that it grants and may grant, what these weigh, and whether it
-/// is legal. A line may grant what it grants, and each bid that a lens can't track.
+/// What is known of a kept line: its pairings, its bids that it grants and may grant, what these weigh, and the rule that
+/// it breaks, if any. A line may grant what it grants, and each bid that a lens can't track.
 #[derive(Clone, Copy)]
 pub(crate) struct Profile {
     pub pairings: PairingSet,
@@ -20,13 +20,21 @@ pub(crate) struct Profile {
     pub may_grant: u64,
     pub score: u32,
     pub may_score: u32,
-    pub is_legal: bool,
+    pub broken: Option<Illegal>,
+}
+
+/// The pairings of a member's kept lines, line after line, and where each line ends.
+#[derive(Drop)]
+struct Flat {
+    pairings: Vec<u32>,
+    ends: Vec<usize>,
 }
 
 /// The kept lines, which are found by member and number, and whose turn it was to be priced first.
 #[derive(Drop)]
 pub(crate) struct Kept {
     pool: Pool,
+    flats: Vec<Flat>,
     profiles: Vec<Vec<Profile>>,
     turn: usize,
 }
@@ -55,13 +63,8 @@ pub fn are_known(problem: &Problem, line: &[u32]) -> bool
     line.iter().all(|pairing| (*pairing as usize) < count)
 }
 
-/// Whether the line is legal for the member.
-fn is_legal(alloc: Global, problem: &Problem, member: u32, line: &Line) -> Result<bool, Memory> {
-    Ok(broken(alloc, problem, member, line)?.is_none())
-}
-
 /// The rule that the line breaks, if any.
-pub(crate) fn broken(
+fn broken(
     alloc: Global,
     problem: &Problem,
     member: u32,
@@ -77,15 +80,15 @@ pub(crate) fn broken(
     }
 }
 
-/// What is known of the line but for whether it is legal.
-fn known_of(problem: &Problem, member: u32, line: &Line) -> Profile {
+/// What is known of the line but for the rule that it breaks.
+fn known_of(problem: &Problem, member: u32, line: &Line, pairings: PairingSet) -> Profile {
     let mut profile = Profile {
-        pairings: PairingSet::of(line.pairings()),
+        pairings,
         grants: 0,
         may_grant: 0,
         score: 0,
         may_score: 0,
-        is_legal: false,
+        broken: None,
     };
     let Some(bids) = problem.bids.as_slice().get(member as usize) else {
         return profile;
@@ -138,18 +141,42 @@ fn offer(pool: &mut Pool, problem: &Problem, member: u32, line: Line) -> Result<
     }
 }
 
+impl Flat {
+    /// The pairings of the line of a number.
+    fn line(&self, place: usize) -> &[u32] {
+        let from = match place.checked_sub(1) {
+            Some(before) => self.ends.get(before).copied().unwrap_or(0),
+            None => 0,
+        };
+        let to = self.ends.get(place).copied().unwrap_or(0);
+        self.pairings.get(from..to).unwrap_or(&[])
+    }
+
+    /// Adds a line.
+    fn add(&mut self, line: &[u32]) -> Result<(), Memory> {
+        self.pairings.extend_from_slice(line)?;
+        self.ends.push(self.pairings.len())?;
+        Ok(())
+    }
+}
+
 impl Profile {
+    /// Whether the line is legal.
+    fn is_legal(&self) -> bool {
+        self.broken.is_none()
+    }
+
     /// Whether a relaxation of the goal may use the line: it is legal, and reaches the floor and grants the bid if the
     /// bids that can't be tracked count as granted.
     pub(crate) fn may_serve(&self, goal: &Goal, member: usize) -> bool {
         let floor = floor_of(goal, member);
-        self.is_legal && self.may_score >= floor && bid_asked(goal, member) & !self.may_grant == 0
+        self.is_legal() && self.may_score >= floor && bid_asked(goal, member) & !self.may_grant == 0
     }
 
     /// Whether the line is legal, and meets the goal.
     pub(crate) fn serves(&self, goal: &Goal, member: usize) -> bool {
         let floor = floor_of(goal, member);
-        self.is_legal && self.score >= floor && bid_asked(goal, member) & !self.grants == 0
+        self.is_legal() && self.score >= floor && bid_asked(goal, member) & !self.grants == 0
     }
 }
 
@@ -179,11 +206,17 @@ impl Kept {
     /// No lines.
     pub(crate) fn new(alloc: Global, problem: &Problem) -> Result<Kept, Memory> {
         let mut profiles = Vec::new(alloc);
+        let mut flats = Vec::new(alloc);
         for _member in 0..problem.base.members.len() {
             profiles.push(Vec::new(alloc))?;
+            flats.push(Flat {
+                pairings: Vec::new(alloc),
+                ends: Vec::new(alloc),
+            })?;
         }
         Ok(Kept {
             pool: Pool::new(alloc, problem)?,
+            flats,
             profiles,
             turn: 0,
         })
@@ -208,6 +241,11 @@ impl Kept {
         self.profiles.get(member)?.get(place)
     }
 
+    /// The rule that a line breaks, if any.
+    pub(crate) fn broken(&self, member: usize, place: usize) -> Option<Illegal> {
+        self.profile(member, place)?.broken
+    }
+
     /// The kept line of a number.
     fn find(&self, member: usize, place: usize) -> Option<&Line> {
         let owner = number(member);
@@ -220,8 +258,8 @@ impl Kept {
 
     /// The pairings of a line.
     pub(crate) fn pairings(&self, member: usize, place: usize) -> &[u32] {
-        match self.find(member, place) {
-            Some(line) => line.pairings(),
+        match self.flats.get(member) {
+            Some(flat) => flat.line(place),
             None => &[],
         }
     }
@@ -254,19 +292,27 @@ impl Kept {
         line: Line,
     ) -> Result<Option<usize>, Memory> {
         let owner = number(member);
-        let mut profile = known_of(problem, owner, &line);
-        if let Some(place) = self.place_of(member, &profile.pairings) {
+        let pairings = PairingSet::of(line.pairings());
+        if let Some(place) = self.place_of(member, &pairings) {
             return Ok(Some(place));
         }
-        profile.is_legal = is_legal(alloc, problem, owner, &line)?;
+        let mut profile = known_of(problem, owner, &line, pairings);
+        profile.broken = broken(alloc, problem, owner, &line)?;
         let place = self.len(member);
         offer(&mut self.pool, problem, owner, line)?;
-        if self.find(member, place).is_none() {
-            return Ok(None);
-        }
-        let Some(profiles) = self.profiles.get_mut(member) else {
+        let (Some(profiles), Some(flat)) = (
+            self.profiles.get_mut(member),
+            self.flats.get_mut(member),
+        ) else {
             return Ok(None);
         };
+        if (owner as usize) >= self.pool.len() {
+            return Ok(None);
+        }
+        let Some(kept) = self.pool.get(owner, number(place)) else {
+            return Ok(None);
+        };
+        flat.add(kept.pairings())?;
         profiles.push(profile)?;
         Ok(Some(place))
     }

@@ -3,7 +3,7 @@ ghost use Rattle.std.specs.Prelude.{◌≡◌};
 ghost use Rattle.roster_model.specs.Goals.{IsGoal};
 
 use crate::board::Row;
-use crate::kept::{Kept, broken, number};
+use crate::kept::{Kept, number};
 use crate::ladder::{first_lens, refine};
 use crate::tested::row_over;
 use duty_calendar::Memory;
@@ -63,12 +63,11 @@ fn look(
     lens: &mut Lens,
     priced: PricedLine,
 ) -> Result<(Option<Priced>, bool), Memory> {
-    let why = broken(alloc, problem, number(member), &priced.line)?;
     let Some(place) = kept.keep(alloc, problem, member, priced.line)? else {
         return Ok((None, true));
     };
     let found = Some(Priced::Line(place, priced.weight));
-    match why {
+    match kept.broken(member, place) {
         None => Ok((found, true)),
         Some(why) => {
             let is_finer = refine(lens, why);
