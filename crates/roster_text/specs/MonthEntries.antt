@@ -53,4 +53,5 @@ pub record IsInTime (given ordered : List Entry) : Type 0 where
 -- what is listed on a day is all that touches it, in order of time; of equal first minutes the pairings come first
 abbrev pub IsListedInTime : Problem → ℕ → List ℕ → Type 0
 IsListedInTime problem member line =
-    (day : ℕ) → IsInTime (filter (touches day) (entries_of problem member line)) (entries_on problem member line day)
+    (day : ℕ)
+    → IsInTime (filter (touches day) (entries_of problem member line)) (entries_on problem member line day)

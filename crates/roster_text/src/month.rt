@@ -66,12 +66,7 @@ fn put_window(out: &mut List<u8>, problem: &Problem, member: u32) -> Result<(), 
 
 /// Appends the score and the days off of a line.
 #[tactic(auto, unfolding(crate::specs::MonthText::worth_text))]
-fn put_worth(
-    out: &mut List<u8>,
-    problem: &Problem,
-    member: u32,
-    line: &Line,
-) -> Result<(), Memory>
+fn put_worth(out: &mut List<u8>, problem: &Problem, member: u32, line: &Line) -> Result<(), Memory>
     requires member { member < length problem.now.base.members }
     requires in_range { All (λ p. p < length problem.now.base.pairings) line.now }
     ensures whole { OnOk result (out.new ≡ out.old ++ worth_text problem.now member line.now) }
@@ -178,7 +173,8 @@ fn mark_word(problem: &Problem, mark: Mark) -> &[u8]
 
 /// Appends the words of entries, each behind a space.
 fn put_others(out: &mut List<u8>, problem: &Problem, entries: &[Entry]) -> Result<(), Memory>
-    ensures whole { OnOk result (out.new ≡ out.old ++ flat_map (λ e. 32 ∷ mark_word problem.now e.mark) entries.now) }
+    ensures whole { OnOk result (out.new ≡ out.old
+        ++ flat_map (λ e. 32 ∷ mark_word problem.now e.mark) entries.now) }
 {
     for entry in entries {
         put_bytes(out, b" ")?;
@@ -292,8 +288,8 @@ fn put_month(
     put_bids(out, problem, member, line)
 }
 
-/// The calendar view of a member's month in a roster: a line of sums, a line for each day with what touches it, and
-/// a line for each bid.
+/// The calendar view of a member's month in a roster: a line of sums, a line for each day with what
+/// touches it, and a line for each bid.
 pub fn print_month(
     alloc: Global,
     problem: &Problem,
@@ -307,6 +303,12 @@ pub fn print_month(
     ensures order { IsListedInTime problem.now member (line_at roster.now member) }
 {
     let mut out = List::new(alloc);
-    put_month(alloc, &mut out, problem, member, &roster.as_slice()[member as usize])?;
+    put_month(
+        alloc,
+        &mut out,
+        problem,
+        member,
+        &roster.as_slice()[member as usize],
+    )?;
     Ok(out)
 }

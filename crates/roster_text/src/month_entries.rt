@@ -49,7 +49,8 @@ fn fixed_entry(event: &Event) -> Entry
 /// Appends the pairings of a line.
 fn push_pairings(out: &mut Vec<Entry>, problem: &Problem, line: &[u32]) -> Result<(), Memory>
     requires in_range { All (λ p. p < length problem.now.base.pairings) line.now }
-    ensures more { OnOk result (out.new.items ≡ out.old.items ++ map (pairing_entry problem.now) line.now) }
+    ensures more { OnOk result (out.new.items ≡ out.old.items
+        ++ map (pairing_entry problem.now) line.now) }
 {
     for pairing in line {
         out.push(pairing_entry(problem, *pairing))?;
@@ -133,7 +134,8 @@ pub fn entries_on(
 ) -> Result<Vec<Entry>, Memory>
     requires member { member < length problem.now.base.members }
     requires in_range { All (λ p. p < length problem.now.base.pairings) line.now }
-    ensures value { IfOk result (λ entries. entries.items ≡ entries_on problem.now member line.now day) }
+    ensures value { IfOk result (λ entries. entries.items
+        ≡ entries_on problem.now member line.now day) }
 {
     let all = entries_of(alloc, problem, member, line)?;
     let mut entries = touching(alloc, all.as_slice(), day)?;
