@@ -1,5 +1,5 @@
 -- Entries in order of time: the order is one, and a stable sort finds it.
-use Rattle.std.proofs.Common.{◌≡◌, ◌≢◌, ℕ, zero, suc, ◌+◌, ◌<◌, ◌≤◌, Bool, true, false, cond, not, ◌&&◌, eqb, leb, ltb, List, [], ◌∷◌, length, get_or, refl, sym, ap, subst, ◌∙◌, arith, ◌⊎◌, inl, inr, nat_cmp, is_lt}
+use Rattle.std.proofs.Common.{◌≡◌, ℕ, zero, suc, ◌<◌, ◌≤◌, Bool, true, false, cond, not, ◌&&◌, eqb, leb, List, [], ◌∷◌, get_or, refl, sym, ap, ◌∙◌, arith, ◌⊎◌, inl, inr, nat_cmp, is_lt}
 use Rattle.std.specs.Prelude.{All, filter}
 use Rattle.std.specs.List.Sorted.{IsPermutation, IsNonDecreasingBy, IsStableByKey, ties}
 use Rattle.std.proofs.lemmas.Bool.{cond_both, cond-true, cond-false, cases_order, leb-true, leb-false, ne_eqb, eq-eqb, eqb-true}
