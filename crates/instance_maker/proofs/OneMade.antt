@@ -67,7 +67,7 @@ one_month_is_made number members pairings a b h g =
 -- the names of pairings, in order
 pub names_in_order : (members n state : ℕ)
     → map (λ p. p.name) (in_order (drawn_pairing members) n state).0 ≡ map pairing_name (range_with_len 0 n)
-unfolding in_order, drawn_pairing
+unfolding in_order drawn_pairing
 names_in_order members zero state = refl
 names_in_order members (suc n) state =
     let before = (in_order (drawn_pairing members) n state).0 in
