@@ -1,7 +1,6 @@
 -- Drawn duties keep the readers' checks, and lie within a part of their day.
-use Rattle.std.proofs.Common.{◌≡◌, ℕ, zero, suc, ◌+◌, ◌-◌, ◌*◌, ◌<◌, ◌≤◌, Bool, true, false, List, [], ◌∷◌, length, Option, Some, None, refl, subst, sym, arith}
+use Rattle.std.proofs.Common.{◌≡◌, ℕ, zero, suc, ◌+◌, ◌-◌, ◌*◌, ◌<◌, ◌≤◌, Bool, true, false, List, [], ◌∷◌, length, Some, None, subst, arith}
 use Rattle.std.specs.Prelude.{◌==◌, ◌||◌, IsTrue, All, AllPairs, if◌then◌else◌}
-use Rattle.std.specs.Option.{ForSome}
 use Rattle.duty_calendar.specs.declared.pairing.Duty.{Duty}
 use Rattle.duty_calendar.specs.declared.pairing.Leg.{Leg}
 use Rattle.duty_calendar.specs.Checks.{IsDuty}
@@ -44,12 +43,12 @@ one_leg : (from to : List ℕ) (report parked : ℕ) → report + 300 ≤ parked
 one_leg from to report parked long f t =
     let flight = leg from to (report + 60) (parked - 30) in
     record {
-  some = omega arith;
-  few = omega arith;
-  times = all_one (λ (l : Leg). (report ≤ l.flown.out_at) × (l.flown.out_at < l.flown.in_at) × (l.flown.in_at ≤ parked)) flight (omega arith, omega arith, omega arith);
-  order = pairs_one (λ (k l : Leg). k.flown.in_at ≤ l.flown.out_at) flight;
-  codes_form = all_one (λ (l : Leg). IsTrue (is_station_code l.from) × IsTrue (is_station_code l.to)) flight (f, t);
-}
+      some = omega arith;
+      few = omega arith;
+      times = all_one (λ (l : Leg). (report ≤ l.flown.out_at) × (l.flown.out_at < l.flown.in_at) × (l.flown.in_at ≤ parked)) flight (omega arith, omega arith, omega arith);
+      order = pairs_one (λ (k l : Leg). k.flown.in_at ≤ l.flown.out_at) flight;
+      codes_form = all_one (λ (l : Leg). IsTrue (is_station_code l.from) × IsTrue (is_station_code l.to)) flight (f, t);
+    }
 
 two_legs : (away : List ℕ) (report parked : ℕ) → report + 300 ≤ parked → IsTrue (is_station_code away)
     → AreLegs report parked (there_and_back away report parked)
@@ -57,13 +56,13 @@ two_legs away report parked long form =
     let there = leg home away (report + 60) (report + 120) in
     let back = leg away home (report + 180) (parked - 30) in
     record {
-  some = omega arith;
-  few = omega arith;
-  times = all_two (λ (l : Leg). (report ≤ l.flown.out_at) × (l.flown.out_at < l.flown.in_at) × (l.flown.in_at ≤ parked)) there back
-  (omega arith, omega arith, omega arith) (omega arith, omega arith, omega arith);
-  order = pairs_two (λ (k l : Leg). k.flown.in_at ≤ l.flown.out_at) there back (omega arith);
-  codes_form = all_two (λ (l : Leg). IsTrue (is_station_code l.from) × IsTrue (is_station_code l.to)) there back (home_code, form) (form, home_code);
-}
+      some = omega arith;
+      few = omega arith;
+      times = all_two (λ (l : Leg). (report ≤ l.flown.out_at) × (l.flown.out_at < l.flown.in_at) × (l.flown.in_at ≤ parked)) there back
+          (omega arith, omega arith, omega arith) (omega arith, omega arith, omega arith);
+      order = pairs_two (λ (k l : Leg). k.flown.in_at ≤ l.flown.out_at) there back (omega arith);
+      codes_form = all_two (λ (l : Leg). IsTrue (is_station_code l.from) × IsTrue (is_station_code l.to)) there back (home_code, form) (form, home_code);
+    }
 
 either_legs : (b : Bool) (x y : List Leg) (report parked : ℕ) → AreLegs report parked x → AreLegs report parked y
     → AreLegs report parked (if b then x else y)
@@ -95,16 +94,16 @@ duty_form : (trip : Trip) (d report long : ℕ) → 300 ≤ long → IsTrue (is_
 duty_form trip d report long lasts form =
     let list = legs_form trip d report (report + long) (omega arith) form in
     record {
-  reported = omega arith;
-  parked = omega arith;
-  lasts = omega arith;
-  some_legs = list.some;
-  few_legs = list.few;
-  legs = list.times;
-  in_order = list.order;
-  stations = list.codes_form;
-  stays = stays_form (d + 1 == trip.duties) trip.away form;
-}
+      reported = omega arith;
+      parked = omega arith;
+      lasts = omega arith;
+      some_legs = list.some;
+      few_legs = list.few;
+      legs = list.times;
+      in_order = list.order;
+      stations = list.codes_form;
+      stays = stays_form (d + 1 == trip.duties) trip.away form;
+    }
 
 -- a duty that lies between 7:00 and 16:30 of its day
 pub record IsOnDay (day : ℕ) (d : Duty) : Type 0 where
@@ -122,8 +121,8 @@ drawn_duty_form trip d state form =
     let few : h < 5 = below_limit 5 state (omega arith) in
     let short : f < 3 = below_limit 3 (below 5 state).1 (omega arith) in
     record {
-  form = duty_form trip d (1440 * (trip.first + d) + 420 + 30 * h) (300 + 60 * f) (omega arith) form;
-  reports = omega arith;
-  early = omega arith;
-  releases = omega arith;
-}
+      form = duty_form trip d (1440 * (trip.first + d) + 420 + 30 * h) (300 + 60 * f) (omega arith) form;
+      reports = omega arith;
+      early = omega arith;
+      releases = omega arith;
+    }

@@ -1,17 +1,15 @@
 -- The made month keeps the readers' checks.
-use Rattle.std.proofs.Common.{◌≡◌, ℕ, ◌+◌, ◌<◌, ◌≤◌, ◌^◌, List, [], ◌∷◌, ◌++◌, length, get_or, refl, subst, sym, ap, ◌∙◌, arith}
-use Rattle.std.specs.Prelude.{map, All, AllPairs}
+use Rattle.std.proofs.Common.{◌≡◌, ℕ, ◌+◌, ◌<◌, ◌≤◌, List, [], ◌∷◌, ◌++◌, length, get_or, refl, subst, sym, ap, ◌∙◌, arith}
+use Rattle.std.specs.Prelude.{map, All}
 use Rattle.std.specs.List.{range_with_len}
 use Rattle.std.proofs.lemmas.List.FromFn.{length-map-range_with_len, get_or-map-range_with_len, map-range_with_len_more}
-use Rattle.duty_calendar.specs.declared.event.Event.{Event}
 use Rattle.duty_calendar.specs.declared.horizon.Horizon.{Horizon}
 use Rattle.duty_calendar.specs.declared.member.Base.{Base}
 use Rattle.duty_calendar.specs.declared.member.Member.{Member}
 use Rattle.duty_calendar.specs.declared.member.Rules.{Rules}
 use Rattle.duty_calendar.specs.declared.pairing.Pairing.{Pairing}
 use Rattle.duty_calendar.specs.Calendar.{month_days}
-use Rattle.duty_calendar.specs.Checks.{IsRules, IsMember, AreMembers, ArePairings, IsBase}
-use Rattle.jiff.specs.Words.{days_in_month}
+use Rattle.duty_calendar.specs.Checks.{IsRules, IsMember, AreMembers, ArePairings}
 use Rattle.roster_model.specs.declared.bid.Bid.{Bid}
 use Rattle.roster_model.specs.Valid.{IsBid, IsValid}
 use Rattle.instance_maker.specs.Draws.{in_order}
@@ -54,15 +52,15 @@ members_form h count some few =
     let at : (k : ℕ) (d : Member) → k < length list → get_or list k d ≡ member k =
     λ k d lt. get_or-map-range_with_len member 0 count k k d (omega (arith, size)) (omega arith) in
     record {
-  some = omega (arith, size);
-  few = omega (arith, size);
-  each = λ k d lt. subst (λ (m : Member). IsMember h m) (sym (at k d lt)) (member_form h k (omega (arith, size)));
-  names = λ i j d less lt same.
-      let one : (get_or list i d).name ≡ member_name i = ap (λ (m : Member). m.name) (at i d (omega arith)) in
-      let other : (get_or list j d).name ≡ member_name j = ap (λ (m : Member). m.name) (at j d lt) in
-      let both : member_name i ≡ member_name j = cc in
-      numbered_differ 77 (i + 1) (j + 1) (omega arith) (omega (arith, size)) both;
-}
+      some = omega (arith, size);
+      few = omega (arith, size);
+      each = λ k d lt. subst (λ (m : Member). IsMember h m) (sym (at k d lt)) (member_form h k (omega (arith, size)));
+      names = λ i j d less lt same.
+          let one : (get_or list i d).name ≡ member_name i = ap (λ (m : Member). m.name) (at i d (omega arith)) in
+          let other : (get_or list j d).name ≡ member_name j = ap (λ (m : Member). m.name) (at j d lt) in
+          let both : member_name i ≡ member_name j = cc in
+          numbered_differ 77 (i + 1) (j + 1) (omega arith) (omega (arith, size)) both;
+    }
 
 valid_parts : (number members pairings : ℕ) (base : Base) → 1 ≤ members → members ≤ 200 → pairings ≤ 600
     → AreMadeRules base.rules → base.pairings ≡ made_pairings number members pairings
@@ -75,15 +73,15 @@ valid_parts number members pairings base some crew trips rules ps ms =
     let count : length base.pairings ≡ pairings = ap (λ (xs : List Pairing). length xs) ps ∙ in_order_length (drawn_pairing members) pairings number in
     let size : length base.members ≡ members = ap (λ (xs : List Member). length xs) ms ∙ length-map-range_with_len member 0 members in
     record {
-  month = record {
-    rules_form = made_rules_form base.rules rules;
-    pairings_form = subst (λ (xs : List Pairing). ArePairings h xs) (sym ps) (made_pairings_form h number members pairings june trips);
-    members_form = subst (λ (xs : List Member). AreMembers h xs) (sym ms) (members_form h members some crew);
-  };
-  lists = bids_length members pairings left ∙ sym size;
-  few_bids = few_bids_form h members pairings left june;
-  each_bid = subst (λ (n : ℕ). All (All (IsBid h n)) (made_bids number members pairings)) (sym count) (each_bid_form h members pairings left june);
-}
+      month = record {
+        rules_form = made_rules_form base.rules rules;
+        pairings_form = subst (λ (xs : List Pairing). ArePairings h xs) (sym ps) (made_pairings_form h number members pairings june trips);
+        members_form = subst (λ (xs : List Member). AreMembers h xs) (sym ms) (members_form h members some crew);
+      };
+      lists = bids_length members pairings left ∙ sym size;
+      few_bids = few_bids_form h members pairings left june;
+      each_bid = subst (λ (n : ℕ). All (All (IsBid h n)) (made_bids number members pairings)) (sym count) (each_bid_form h members pairings left june);
+    }
 
 -- what was drawn one after another is what the month has
 pub made_trips : (number members pairings left : ℕ) (trips : List Pairing)

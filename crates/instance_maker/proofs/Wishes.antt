@@ -1,12 +1,9 @@
 -- Drawn bids keep the readers' checks.
 use Rattle.std.proofs.Common.{◌≡◌, ℕ, ◌+◌, ◌<◌, ◌≤◌, Bool, true, false, List, length, get_or, refl, arith}
 use Rattle.std.specs.Prelude.{◌==◌, ◌&&◌, nat_le, nat_lt, All, if◌then◌else◌}
-use Rattle.std.specs.List.{list_all}
-use Rattle.std.proofs.lemmas.Bool.{and_from}
 use Rattle.std.proofs.lemmas.Bool.Decides.{nat_tests}
 use Rattle.duty_calendar.specs.declared.horizon.Horizon.{Horizon}
 use Rattle.duty_calendar.specs.Calendar.{month_days}
-use Rattle.duty_calendar.specs.Forms.{is_station_code}
 use Rattle.roster_model.specs.declared.bid.Bid.{Bid}
 use Rattle.roster_model.specs.declared.bid.Test.{Test}
 use Rattle.roster_model.specs.declared.bid.Test.TheVariants.{Layover, Days}
@@ -59,10 +56,10 @@ drawn_bid_form h pairings state june =
     let kind = (below 4 (below 20 state).1).0 in
     let left = (below 4 (below 20 state).1).1 in
     record {
-  some_weight = omega arith;
-  few_weight = omega arith;
-  wish_form = wish_form h pairings (if (kind == 0) && (pairings == 0) then 1 else kind) left june (kept_kind kind pairings);
-}
+      some_weight = omega arith;
+      few_weight = omega arith;
+      wish_form = wish_form h pairings (if (kind == 0) && (pairings == 0) then 1 else kind) left june (kept_kind kind pairings);
+    }
 
 -- the bids of a member
 record AreBids (h : Horizon) (pairings : ℕ) (list : List Bid) : Type 0 where

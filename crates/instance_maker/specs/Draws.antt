@@ -1,11 +1,12 @@
--- How a month is drawn: each draw takes the state that the last one left, and gives a value and the next state.
+-- How things are drawn from a number: each draw takes the state that the last one left, and gives a value and the next
+-- state.
 use Rattle.std.specs.Prelude.{ℕ, zero, suc, ◌+◌, ◌*◌, ◌/◌, ◌%◌, ◌^◌, List, [], ◌∷◌, ◌++◌}
 
 -- something that is drawn
 abbrev pub Draw : Type 0 → Type 0
 Draw A = ℕ → A × ℕ
 
--- one drawn thing, and then what is drawn by its value; and a value for which nothing is drawn
+-- one draw and then another, which may depend on the value of the first; and a value for which nothing is drawn
 infixl 10 ◌>>=◌
 abbrev pub ◌>>=◌ : {A B : Type 0} → Draw A → (A → Draw B) → Draw B
 (draw >>= next) state = next (draw state).0 (draw state).1

@@ -1,5 +1,5 @@
--- The month that is made of a number, for so many members and pairings. Minutes are those of the month's horizon, in
--- which day 365 is its first.
+-- The month that is made of a number, for so many members and pairings. Pairings, duties and members count from 0,
+-- minutes and days are those of the month's horizon, and its first day is day 365.
 use Rattle.std.specs.Prelude.{◌≡◌, ℕ, ◌+◌, ◌-◌, ◌*◌, ◌/◌, ◌%◌, ◌&&◌, ◌||◌, ◌==◌, List, [], ◌∷◌, map, codes, decimal, pos, Some, None, false, if◌then◌else◌}
 use Rattle.std.specs.List.{range_with_len}
 use Rattle.duty_calendar.specs.declared.member.Member.{Member}
@@ -49,7 +49,7 @@ abbrev pub legs : Trip → ℕ → ℕ → ℕ → List Leg
 legs trip d report parked = if trip.duties == 1 then there_and_back trip.away report parked
     else leg (place trip d) (place trip (d + 1)) (report + 60) (parked - 30) ∷ []
 
--- a duty that lasts so long; its crew stays at the station, unless it is the last one
+-- a duty that is parked so long after its report; its crew stays at the station, unless it is the last one
 abbrev pub duty : Trip → ℕ → ℕ → ℕ → Duty
 duty trip d report long = record {
   report = report;
@@ -59,12 +59,13 @@ duty trip d report long = record {
   legs = legs trip d report (report + long);
 }
 
--- Duty d of a pairing: it reports from 7:00 to 9:00 of its day, and lasts five, six or seven hours.
+-- Duty d of a pairing, d days after its first day: its report is from 7:00 to 9:00 by half hours, and it is parked
+-- five, six or seven hours later.
 unfoldable pub drawn_duty : Trip → ℕ → Draw Duty
 drawn_duty trip d = do
-  h ← below 5
-  f ← below 3
-  done (duty trip d (1440 * (trip.first + d) + 420 + 30 * h) (300 + 60 * f))
+  half_hours ← below 5
+  hours ← below 3
+  done (duty trip d (1440 * (trip.first + d) + 420 + 30 * half_hours) (300 + 60 * hours))
 
 -- Where and when pairing i goes. The month has six stretches of five days, and each stretch in turn has one pairing
 -- for each member; a pairing begins on the first or the second day of its stretch.
@@ -72,23 +73,23 @@ unfoldable pub drawn_trip : ℕ → ℕ → Draw Trip
 drawn_trip members i = do
   more ← below 3
   late ← below 2
-  q ← below 4
-  done (record { duties = 1 + more; away = station q; first = 365 + 5 * (i / members % 6) + late })
+  n ← below 4
+  done (record { duties = 1 + more; away = station n; first = 365 + 5 * (i / members % 6) + late })
 
 -- a pairing of one to three duties on consecutive days, which one member is to fly
 unfoldable pub drawn_pairing : ℕ → ℕ → Draw Pairing
 drawn_pairing members i = do
   trip ← drawn_trip members i
   duties ← in_order (drawn_duty trip) trip.duties
-  c ← below 30
-  done (record { name = pairing_name i; need = 1; credit = 270 * trip.duties + c; duties = duties })
+  extra ← below 30
+  done (record { name = pairing_name i; need = 1; credit = 270 * trip.duties + extra; duties = duties })
 
 -- a filter of one test
 abbrev pub only : Test → List Atom
 only test = record { negated = false; test = test } ∷ []
 
--- A wish of one of four kinds: to fly a pairing, to have a day off, to avoid layovers at a station, or to have a pairing
--- that touches so many days.
+-- A wish of one of four kinds: to fly a pairing, to have a day off, to avoid layovers at a station, or to have a
+-- pairing of so many days.
 unfoldable pub drawn_wish : ℕ → ℕ → Draw Wish
 drawn_wish pairings kind =
     if kind == 0 then (do
@@ -98,10 +99,10 @@ drawn_wish pairings kind =
       day ← below 30
       done (Off (365 + day) (365 + day))) else
     (if kind == 2 then (do
-      q ← below 4
-      done (Avoid (only (Layover (station q))))) else (do
-      more ← below 3
-      done (Prefer 1 (only (Days (1 + more)))))))
+      n ← below 4
+      done (Avoid (only (Layover (station n))))) else (do
+        more ← below 3
+        done (Prefer 1 (only (Days (1 + more)))))))
 
 -- a bid of weight 1 to 20; where there is no pairing to fly, the wish is for a day off
 unfoldable pub drawn_bid : ℕ → Draw Bid

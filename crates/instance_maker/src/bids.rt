@@ -72,7 +72,12 @@ fn draw_three(alloc: Global, draws: &mut Draws, pairings: u32) -> Result<List<Bi
 }
 
 /// Draws the bids of so many members.
-pub fn draw_bids(alloc: Global, draws: &mut Draws, members: u32, pairings: u32) -> Result<List<List<Bid>>, Memory>
+pub fn draw_bids(
+    alloc: Global,
+    draws: &mut Draws,
+    members: u32,
+    pairings: u32,
+) -> Result<List<List<Bid>>, Memory>
     ensures drawn { IfOk result (λ lists. drawn_bids members pairings draws.old.state ≡ (lists, draws.new.state)) }
 {
     let mut lists = List::new(alloc);

@@ -5,8 +5,8 @@ ghost use Rattle.instance_maker.specs.Months.{member, AreMadeRules, IsMade};
 
 use crate::bids::draw_bids;
 use crate::draws::Draws;
-use crate::names::{home, numbered};
 use crate::lists::add;
+use crate::names::{home, numbered};
 use crate::pairings::draw_pairings;
 use duty_calendar::{Base, Horizon, List, Member, Memory, Name, Rules};
 use roster_model::Problem;

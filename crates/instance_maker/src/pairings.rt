@@ -29,7 +29,12 @@ fn place(trip: &Trip, duty: u32) -> Station
 }
 
 /// A flight to the station and one back.
-fn there_and_back(alloc: Global, away: Station, report: u32, parked: u32) -> Result<List<Leg>, Memory>
+fn there_and_back(
+    alloc: Global,
+    away: Station,
+    report: u32,
+    parked: u32,
+) -> Result<List<Leg>, Memory>
     requires times { report + 300 ≤ parked }
     requires within { parked ≤ 2_000_000 }
     ensures value { IfOk result (λ list. list ≡ there_and_back away report parked) }
@@ -56,7 +61,13 @@ fn there_and_back(alloc: Global, away: Station, report: u32, parked: u32) -> Res
 }
 
 /// The legs of a duty.
-fn legs(alloc: Global, trip: &Trip, duty: u32, report: u32, parked: u32) -> Result<List<Leg>, Memory>
+fn legs(
+    alloc: Global,
+    trip: &Trip,
+    duty: u32,
+    report: u32,
+    parked: u32,
+) -> Result<List<Leg>, Memory>
     requires times { report + 300 ≤ parked }
     requires within { parked ≤ 2_000_000 }
     requires number { duty < trip.now.duties }
@@ -146,7 +157,12 @@ fn draw_trip(draws: &mut Draws, members: u32, number: u32) -> Trip
 
 /// Draws the pairing of this number.
 #[tactic(auto, unfolding(crate::specs::Months::drawn_pairing))]
-fn draw_pairing(alloc: Global, draws: &mut Draws, members: u32, number: u32) -> Result<Pairing, Memory>
+fn draw_pairing(
+    alloc: Global,
+    draws: &mut Draws,
+    members: u32,
+    number: u32,
+) -> Result<Pairing, Memory>
     requires some { 1 ≤ members }
     requires few { number < 600 }
     ensures drawn { IfOk result (λ made. drawn_pairing members number draws.old.state ≡ (made, draws.new.state)) }
@@ -163,7 +179,12 @@ fn draw_pairing(alloc: Global, draws: &mut Draws, members: u32, number: u32) -> 
 }
 
 /// Draws so many pairings.
-pub fn draw_pairings(alloc: Global, draws: &mut Draws, members: u32, count: u32) -> Result<List<Pairing>, Memory>
+pub fn draw_pairings(
+    alloc: Global,
+    draws: &mut Draws,
+    members: u32,
+    count: u32,
+) -> Result<List<Pairing>, Memory>
     requires some { 1 ≤ members }
     requires few { count ≤ 600 }
     ensures drawn { IfOk result (λ list. in_order (drawn_pairing members) count draws.old.state

@@ -35,12 +35,20 @@ fn has_fly(bids: &[Bid]) -> bool {
 }
 
 fn some_fly(problem: &Problem) -> bool {
-    problem.bids.as_slice().iter().any(|list| has_fly(list.as_slice()))
+    problem
+        .bids
+        .as_slice()
+        .iter()
+        .any(|list| has_fly(list.as_slice()))
 }
 
 /// The sizes of a made month: members, pairings, and the members with three bids.
 fn sizes(problem: &Problem) -> (usize, usize, usize) {
-    (problem.base.members.len(), problem.base.pairings.len(), with_three(problem))
+    (
+        problem.base.members.len(),
+        problem.base.pairings.len(),
+        with_three(problem),
+    )
 }
 
 #[test]
