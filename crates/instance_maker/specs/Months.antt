@@ -67,8 +67,8 @@ drawn_duty trip d = do
   hours ← below 3
   done (duty trip d (1440 * (trip.first + d) + 420 + 30 * half_hours) (300 + 60 * hours))
 
--- Where and when pairing i goes. The month has six stretches of five days, and each stretch in turn has one pairing
--- for each member; a pairing begins on the first or the second day of its stretch.
+-- Where and when pairing i goes. The month has six stretches of five days; each in turn, and then again from the first,
+-- has one pairing for each member. A pairing begins on the first or the second day of its stretch.
 unfoldable pub drawn_trip : ℕ → ℕ → Draw Trip
 drawn_trip members i = do
   more ← below 3
