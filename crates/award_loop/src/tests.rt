@@ -10,7 +10,7 @@ ghost use Rattle.roster_model.specs.Timelines.{history_of, fixed_of};
 use crate::{Outcome, award, award_from};
 use branch_log::{Closer, Ledger, Verdict};
 use duty_calendar::{Base, Horizon, List, Member, Memory, Name, Rules, Station};
-use roster_model::{Goal, Item, Line, Node, Problem, Roster};
+use roster_model::{BidRef, Goal, Item, Line, Node, Problem, Roster};
 use std::alloc::Global;
 
 /// Gives the empty line, unless the member is to have a score.
@@ -40,6 +40,20 @@ impl Closer for Idle {
             return Ok(Verdict::Closed(Item::Fixed(0)));
         }
         Ok(Verdict::Whole(unflown(alloc)?))
+    }
+
+    fn next_place(
+        &mut self,
+        _alloc: Global,
+        _problem: &Problem,
+        _scores: &[u32],
+        _bid: BidRef,
+        low: u32,
+        _high: u32,
+    ) -> Result<u32, Memory>
+        ensures rounds { self.new ≡ self.old }
+    {
+        Ok(low)
     }
 }
 

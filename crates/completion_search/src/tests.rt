@@ -12,7 +12,7 @@ use branch_log::{Closer, Ledger, Verdict};
 use duty_calendar::{
     Base, Duty, Flown, Horizon, Leg, List, Member, Memory, Name, Pairing, Rules, Station,
 };
-use roster_model::{Goal, Item, Node, Problem};
+use roster_model::{BidRef, Goal, Item, Node, Problem};
 use std::alloc::Global;
 
 /// Branches at the empty node, and closes both sides where the member is to have a score.
@@ -46,6 +46,20 @@ impl Closer for Lone {
             return Ok(Verdict::Closed(Item::Fixed(0)));
         }
         Err(Memory::NoMemory)
+    }
+
+    fn next_place(
+        &mut self,
+        _alloc: Global,
+        _problem: &Problem,
+        _scores: &[u32],
+        _bid: BidRef,
+        low: u32,
+        _high: u32,
+    ) -> Result<u32, Memory>
+        ensures rounds { self.new ≡ self.old }
+    {
+        Ok(low)
     }
 }
 
