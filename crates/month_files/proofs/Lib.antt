@@ -1,3 +1,4 @@
 pub mod Ends
 pub mod OneMonth
 pub mod Logged
+pub mod WriteLaws

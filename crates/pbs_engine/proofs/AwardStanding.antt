@@ -40,33 +40,34 @@ use Rattle.shelf.specs.Logs.{Entries}
 use Rattle.shelf.specs.Puts.{with_piece, Puts}
 use Rattle.shelf.specs.declared.fault.SinkFault.{SinkFault}
 use Rattle.shelf.specs.declared.fault.SinkFault.TheVariants.{PutFailed, NoMemory}
-use Rattle.pbs_engine.specs.declared.award_stop.AwardStop.{AwardStop}
-use Rattle.pbs_engine.specs.declared.award_stop.AwardStop.TheVariants as stop
-use Rattle.pbs_engine.specs.declared.award_stop.Finding.{Finding}
-use Rattle.pbs_engine.specs.declared.award_stop.Found.{Found}
-use Rattle.pbs_engine.specs.declared.award_stop.Found.TheVariants as kind
+use Rattle.month_commands.specs.declared.award_stop.AwardStop.{AwardStop}
+use Rattle.month_commands.specs.declared.award_stop.AwardStop.TheVariants as stop
+use Rattle.month_commands.specs.declared.award_stop.Finding.{Finding}
+use Rattle.month_commands.specs.declared.award_stop.Found.{Found}
+use Rattle.month_commands.specs.declared.award_stop.Found.TheVariants as kind
 use Rattle.pbs_engine.specs.declared.command.Command.{Command}
 use Rattle.pbs_engine.specs.declared.command.Command.TheVariants as command
 use Rattle.pbs_engine.specs.declared.outcome.Outcome.{Outcome}
 use Rattle.pbs_engine.specs.declared.outcome.Outcome.TheVariants as outcome
 use Rattle.pbs_engine.specs.declared.status.Status.{Status}
 use Rattle.pbs_engine.specs.declared.status.Status.TheVariants as status
-use Rattle.pbs_engine.specs.declared.writing.Draft.{Draft}
-use Rattle.pbs_engine.specs.declared.writing.Unwritten.{Unwritten}
-use Rattle.pbs_engine.specs.declared.writing.WriteStop.{WriteStop}
-use Rattle.pbs_engine.specs.declared.writing.WriteStop.TheVariants as write
-use Rattle.pbs_engine.specs.Award.{FindsAward, FindsNone, Finds, OfMonth, IsReadable, IsAward, IsAwardHanded, IsFound}
+use Rattle.month_files.specs.declared.writing.Draft.{Draft}
+use Rattle.month_files.specs.declared.writing.Unwritten.{Unwritten}
+use Rattle.month_files.specs.declared.writing.WriteStop.{WriteStop}
+use Rattle.month_files.specs.declared.writing.WriteStop.TheVariants as write
+use Rattle.month_commands.specs.Award.{FindsAward, FindsNone, Finds, OfMonth, IsReadable, IsAward, IsAwardHanded, IsFound}
 use Rattle.pbs_engine.specs.AwardHeadline.{AwardIsWritten, NoneIsWritten, IsAwardOf, Tells, EndsInAward, EndsInNone, HasAward, Awards, AwardsRead, budget_line, none_lines}
-use Rattle.pbs_engine.specs.AwardTexts.{award_status, award_text, award_written, lines_of, found_status, write_status}
-use Rattle.pbs_engine.specs.Check.{Given, given_in, Claimed, claimed_in, NamesCertificate, AwardIsAccepted, NoneIsAccepted}
+use Rattle.pbs_engine.specs.AwardTexts.{award_status, award_text, lines_of, found_status, write_status}
+use Rattle.month_commands.specs.AwardEnds.{award_written}
+use Rattle.month_commands.specs.Check.{Given, given_in, Claimed, claimed_in, NamesCertificate, AwardIsAccepted, NoneIsAccepted}
 use Rattle.pbs_engine.specs.Lines.{line, line_of}
 use Rattle.pbs_engine.specs.Outcomes.{asked_by, text_of, written_by, IsRight, IsHandedIn}
 use Rattle.pbs_engine.specs.Runs.{Shelved, Sunk, ComesTo, Says, ending}
 use Rattle.pbs_engine.specs.Words.{command_in}
-use Rattle.pbs_engine.specs.Writes.{Leaves, named_bytes, with_files, written as written_files}
-use Rattle.pbs_engine.specs.Handed.{FromTexts}
-use Rattle.pbs_engine.proofs.AwardLaws.{on_texts, on_month}
-use Rattle.pbs_engine.proofs.HandedLaws.{then_ok, within_limit}
+use Rattle.month_files.specs.Writes.{Leaves, named_bytes, with_files, written as written_files}
+use Rattle.month_commands.specs.Handed.{FromTexts}
+use Rattle.month_commands.proofs.AwardLaws.{on_texts, on_month}
+use Rattle.month_commands.proofs.HandedLaws.{then_ok, within_limit}
 
 -- ---- files after a write
 

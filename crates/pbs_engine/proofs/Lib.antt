@@ -1,11 +1,6 @@
 pub mod Saying
 pub mod Texts
 pub mod WordLaws
-pub mod WriteLaws
-pub mod Limits
-pub mod CheckLaws
-pub mod HandedLaws
-pub mod AwardLaws
 pub mod OneAnswer
 pub mod Standing
 pub mod AwardStanding

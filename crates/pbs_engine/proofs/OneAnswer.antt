@@ -25,13 +25,13 @@ use Rattle.roster_text.specs.ReasonText.{IsReasonsText}
 use Rattle.roster_text.proofs.FaultLaws.{not_both}
 use Rattle.roster_text.proofs.ReasonLines.{one_list, not_both as never_faulty}
 use Rattle.roster_text.proofs.RowLaws.{one_roster}
-use Rattle.pbs_engine.specs.declared.check_stop.Refusal.{Refusal}
-use Rattle.pbs_engine.specs.declared.check_stop.Refusal.TheVariants as refusal
+use Rattle.month_commands.specs.declared.check_stop.Refusal.{Refusal}
+use Rattle.month_commands.specs.declared.check_stop.Refusal.TheVariants as refusal
 use Rattle.pbs_engine.specs.declared.status.Status.{Status}
 use Rattle.pbs_engine.specs.declared.status.Status.TheVariants as status
-use Rattle.pbs_engine.specs.declared.verdict.Verdict.{Verdict}
-use Rattle.pbs_engine.specs.declared.verdict.Verdict.TheVariants as verdict
-use Rattle.pbs_engine.specs.Check.{Given, given_in, Claimed, claimed_in, HasBadInput, NamesProblem, NamesCertificate, HasClaim, NamesAll, IsAccepted, IsRefused, EndsReading}
+use Rattle.month_commands.specs.declared.verdict.Verdict.{Verdict}
+use Rattle.month_commands.specs.declared.verdict.Verdict.TheVariants as verdict
+use Rattle.month_commands.specs.Check.{Given, given_in, Claimed, claimed_in, HasBadInput, NamesProblem, NamesCertificate, HasClaim, NamesAll, IsAccepted, IsRefused, EndsReading}
 use Rattle.pbs_engine.specs.MonthEnds.{unread_status}
 
 -- what a status takes behind a stage that is a function

@@ -18,33 +18,34 @@ use Rattle.month_files.specs.declared.fault.InputFault.{InputFault}
 use Rattle.month_files.specs.declared.file.File.{File}
 use Rattle.month_files.specs.declared.unread.Unread.{Unread}
 use Rattle.month_files.specs.declared.unread.Unread.TheVariants as unread
-use Rattle.pbs_engine.specs.declared.award_stop.AwardStop.{AwardStop}
-use Rattle.pbs_engine.specs.declared.award_stop.AwardStop.TheVariants as award_stop
-use Rattle.pbs_engine.specs.declared.award_stop.Finding.{Finding}
-use Rattle.pbs_engine.specs.declared.award_stop.Found.{Found}
-use Rattle.pbs_engine.specs.declared.award_stop.Found.TheVariants as kind
-use Rattle.pbs_engine.specs.declared.check_stop.CheckStop.TheVariants as stop
-use Rattle.pbs_engine.specs.declared.check_stop.Refusal.{Refusal}
+use Rattle.month_commands.specs.declared.award_stop.AwardStop.{AwardStop}
+use Rattle.month_commands.specs.declared.award_stop.AwardStop.TheVariants as award_stop
+use Rattle.month_commands.specs.declared.award_stop.Finding.{Finding}
+use Rattle.month_commands.specs.declared.award_stop.Found.{Found}
+use Rattle.month_commands.specs.declared.award_stop.Found.TheVariants as kind
+use Rattle.month_commands.specs.declared.check_stop.CheckStop.TheVariants as stop
+use Rattle.month_commands.specs.declared.check_stop.Refusal.{Refusal}
 use Rattle.pbs_engine.specs.declared.command.Command.{Command}
 use Rattle.pbs_engine.specs.declared.command.Command.TheVariants as command
 use Rattle.pbs_engine.specs.declared.outcome.Outcome.{Outcome}
 use Rattle.pbs_engine.specs.declared.outcome.Outcome.TheVariants as outcome
 use Rattle.pbs_engine.specs.declared.status.Status.{Status}
 use Rattle.pbs_engine.specs.declared.status.Status.TheVariants as status
-use Rattle.pbs_engine.specs.declared.verdict.Verdict.{Verdict}
-use Rattle.pbs_engine.specs.declared.writing.Draft.{Draft}
-use Rattle.pbs_engine.specs.declared.writing.WriteStop.{WriteStop}
-use Rattle.pbs_engine.specs.declared.writing.WriteStop.TheVariants as write
-use Rattle.pbs_engine.specs.Award.{OfMonth, Finds, IsAward, IsFound, IsSpent}
-use Rattle.pbs_engine.specs.AwardTexts.{AwardCause, award_status, found_status, write_status}
-use Rattle.pbs_engine.specs.Check.{IsAccepted, IsRefused, HasBadInput, EndsReading}
+use Rattle.month_commands.specs.declared.verdict.Verdict.{Verdict}
+use Rattle.month_files.specs.declared.writing.Draft.{Draft}
+use Rattle.month_files.specs.declared.writing.WriteStop.{WriteStop}
+use Rattle.month_files.specs.declared.writing.WriteStop.TheVariants as write
+use Rattle.month_commands.specs.Award.{OfMonth, Finds, IsAward, IsFound, IsSpent}
+use Rattle.pbs_engine.specs.AwardTexts.{award_status, found_status, write_status}
+use Rattle.month_commands.specs.AwardEnds.{AwardCause}
+use Rattle.month_commands.specs.Check.{IsAccepted, IsRefused, HasBadInput, EndsReading}
 use Rattle.pbs_engine.specs.MonthEnds.{unread_status}
 use Rattle.pbs_engine.specs.Outcomes.{asked_by, IsRight, HasCause}
 use Rattle.pbs_engine.specs.Rows.{IsQuiet, IsCalm, Comes, Exactly, IsAsked, IsChecked, IsAwarded, HasBad, Ends, HasRoster, Rows}
 use Rattle.pbs_engine.specs.Runs.{Shelved, Sunk, Says, ComesTo, RunCause, ending}
 use Rattle.pbs_engine.specs.Words.{command_in}
-use Rattle.pbs_engine.specs.Writes.{StopCause}
-use Rattle.pbs_engine.proofs.AwardLaws.{on_month}
+use Rattle.month_files.specs.Writes.{StopCause}
+use Rattle.month_commands.proofs.AwardLaws.{on_month}
 use Rattle.pbs_engine.proofs.AwardWays.{IsAnswer, AwardPath, award_agree, month_path, fault_path, unread_month_path}
 use Rattle.pbs_engine.proofs.OneAnswer.{ByOption, Path, one_path, accepted_path, refused_path, bad_path, unread_path}
 

@@ -16,17 +16,17 @@ use Rattle.month_files.specs.declared.file.File.TheVariants.{Certificate as Cert
 use Rattle.month_files.specs.declared.unread.Unread.{Unread}
 use Rattle.month_files.specs.declared.unread.Unread.TheVariants as unread
 use Rattle.month_files.specs.Reading.{◌>>=◌, within, text_in, texts_in}
-use Rattle.pbs_engine.specs.declared.check_stop.CheckStop.TheVariants as stop
+use Rattle.month_commands.specs.declared.check_stop.CheckStop.TheVariants as stop
 use Rattle.pbs_engine.specs.declared.command.Command.TheVariants as command
 use Rattle.pbs_engine.specs.declared.outcome.Outcome.{Outcome}
 use Rattle.pbs_engine.specs.declared.outcome.Outcome.TheVariants as outcome
 use Rattle.pbs_engine.specs.declared.status.Status.{Status}
 use Rattle.pbs_engine.specs.declared.status.Status.TheVariants as status
-use Rattle.pbs_engine.specs.declared.verdict.Verdict.{Verdict}
-use Rattle.pbs_engine.specs.declared.verdict.Verdict.TheVariants as verdict
-use Rattle.pbs_engine.specs.Check.{Given, given_in, Claimed, claimed_in, AwardIsAccepted, NoneIsAccepted, IsAccepted}
+use Rattle.month_commands.specs.declared.verdict.Verdict.{Verdict}
+use Rattle.month_commands.specs.declared.verdict.Verdict.TheVariants as verdict
+use Rattle.month_commands.specs.Check.{Given, given_in, Claimed, claimed_in, AwardIsAccepted, NoneIsAccepted, IsAccepted}
 use Rattle.pbs_engine.specs.CheckTexts.{yes_text}
-use Rattle.pbs_engine.specs.Handed.{FromTexts}
+use Rattle.month_commands.specs.Handed.{FromTexts}
 use Rattle.pbs_engine.specs.Headline.{AwardStands, NoRosterStands, Stands}
 use Rattle.pbs_engine.specs.Outcomes.{asked_by, text_of, IsRight, IsHandedIn}
 use Rattle.pbs_engine.specs.Runs.{Says, Sunk, Shelved, ComesTo, ending}

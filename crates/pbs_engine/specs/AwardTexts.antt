@@ -1,21 +1,18 @@
--- How a run of `award` ends, what it prints and writes, and which change of the shelf's counts it comes with.
-use Rattle.std.specs.Prelude.{◌≡◌, ℕ, List, [], ◌∷◌, ◌++◌, codes, Result, Ok, Err}
-use Rattle.shelf.specs.declared.tally.Tally.{Tally}
+-- How a run of `award` ends, and what it prints.
+use Rattle.std.specs.Prelude.{ℕ, List, [], ◌∷◌, ◌++◌, codes, Result, Ok, Err}
 use Rattle.month_files.specs.FileNames.{name_of}
-use Rattle.month_files.specs.Reading.{UnreadCause}
-use Rattle.pbs_engine.specs.declared.award_stop.AwardStop.{AwardStop}
-use Rattle.pbs_engine.specs.declared.award_stop.AwardStop.TheVariants as stop
-use Rattle.pbs_engine.specs.declared.award_stop.Finding.{Finding}
-use Rattle.pbs_engine.specs.declared.award_stop.Found.{Found}
-use Rattle.pbs_engine.specs.declared.award_stop.Found.TheVariants as found
+use Rattle.month_commands.specs.declared.award_stop.AwardStop.{AwardStop}
+use Rattle.month_commands.specs.declared.award_stop.AwardStop.TheVariants as stop
+use Rattle.month_commands.specs.declared.award_stop.Finding.{Finding}
+use Rattle.month_commands.specs.declared.award_stop.Found.{Found}
+use Rattle.month_commands.specs.declared.award_stop.Found.TheVariants as found
 use Rattle.pbs_engine.specs.declared.status.Status.{Status}
 use Rattle.pbs_engine.specs.declared.status.Status.TheVariants as status
-use Rattle.pbs_engine.specs.declared.writing.Unwritten.{Unwritten}
-use Rattle.pbs_engine.specs.declared.writing.WriteStop.{WriteStop}
-use Rattle.pbs_engine.specs.declared.writing.WriteStop.TheVariants as write
+use Rattle.month_files.specs.declared.writing.Unwritten.{Unwritten}
+use Rattle.month_files.specs.declared.writing.WriteStop.{WriteStop}
+use Rattle.month_files.specs.declared.writing.WriteStop.TheVariants as write
 use Rattle.pbs_engine.specs.Lines.{line, line_of}
 use Rattle.pbs_engine.specs.MonthEnds.{unread_status, unread_text, input_status, bad_input_text}
-use Rattle.pbs_engine.specs.Writes.{Written, nothing_written, written, StopCause}
 
 abbrev pub write_status : WriteStop → Status
 write_status write.Fault = status.WriteFault
@@ -32,23 +29,6 @@ award_status (Err (stop.BadInput why)) = input_status why
 award_status (Err (stop.Budget nodes)) = status.Budget
 award_status (Err (stop.Unwritten f u)) = write_status u.why
 award_status (Err stop.NoMemory) = status.NoMemory
-
-abbrev pub AwardCause : Tally → Tally → Result Finding AwardStop → Type 0
-AwardCause old new (Ok f) = new ≡ old
-AwardCause old new (Err (stop.Unread why)) = UnreadCause old new why
-AwardCause old new (Err (stop.BadInput why)) = new ≡ old
-AwardCause old new (Err (stop.Budget nodes)) = new ≡ old
-AwardCause old new (Err (stop.Unwritten f u)) = StopCause (name_of u.file) old new u.why
-AwardCause old new (Err stop.NoMemory) = new ≡ old
-
--- the files that are written: all that say what was found, or those before the one that was not written
-abbrev pub award_written : Result Finding AwardStop → Written
-award_written (Ok f) = written f.drafts (Ok tt)
-award_written (Err (stop.Unread why)) = nothing_written
-award_written (Err (stop.BadInput why)) = nothing_written
-award_written (Err (stop.Budget nodes)) = nothing_written
-award_written (Err (stop.Unwritten f u)) = written f.drafts (Err u)
-award_written (Err stop.NoMemory) = nothing_written
 
 -- the award, or that there is none
 abbrev pub first_text : Found → List ℕ

@@ -1,15 +1,9 @@
 pub mod Statuses
 pub mod Words
-pub mod Writes
 pub mod Lines
 pub mod MonthEnds
-pub mod CheckEnds
 pub mod CheckTexts
-pub mod Check
-pub mod Handed
-pub mod AwardEnds
 pub mod AwardTexts
-pub mod Award
 pub mod Outcomes
 pub mod Runs
 pub mod Headline

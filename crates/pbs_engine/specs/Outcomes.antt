@@ -10,13 +10,15 @@ use Rattle.pbs_engine.specs.declared.outcome.Outcome.{Outcome}
 use Rattle.pbs_engine.specs.declared.outcome.Outcome.TheVariants as outcome
 use Rattle.pbs_engine.specs.declared.status.Status.{Status}
 use Rattle.pbs_engine.specs.declared.status.Status.TheVariants as status
-use Rattle.pbs_engine.specs.Award.{IsAward, IsAwardHanded}
-use Rattle.pbs_engine.specs.AwardTexts.{award_status, award_text, award_written, AwardCause}
-use Rattle.pbs_engine.specs.Check.{IsCheck}
-use Rattle.pbs_engine.specs.CheckTexts.{check_status, check_text, CheckCause}
-use Rattle.pbs_engine.specs.Handed.{IsHanded}
+use Rattle.month_commands.specs.Award.{IsAward, IsAwardHanded}
+use Rattle.pbs_engine.specs.AwardTexts.{award_status, award_text}
+use Rattle.month_commands.specs.AwardEnds.{award_written, AwardCause}
+use Rattle.month_commands.specs.Check.{IsCheck}
+use Rattle.pbs_engine.specs.CheckTexts.{check_status, check_text}
+use Rattle.month_commands.specs.CheckEnds.{CheckCause}
+use Rattle.month_commands.specs.Handed.{IsHanded}
 use Rattle.pbs_engine.specs.Lines.{line}
-use Rattle.pbs_engine.specs.Writes.{Written, nothing_written}
+use Rattle.month_files.specs.Writes.{Written, nothing_written}
 
 -- the command whose outcome it is; none where the words are no command
 abbrev pub asked_by : Outcome → Option Command

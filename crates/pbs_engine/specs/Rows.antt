@@ -12,14 +12,14 @@ use Rattle.month_files.specs.declared.unread.Unread.TheVariants.{Missing, TooLon
 use Rattle.roster_model.specs.Awards.{HasNoRoster}
 use Rattle.roster_model.specs.Rosters.{IsComplete}
 use Rattle.roster_model.specs.declared.problem.Problem.{Problem}
-use Rattle.pbs_engine.specs.declared.check_stop.Refusal.{Refusal}
+use Rattle.month_commands.specs.declared.check_stop.Refusal.{Refusal}
 use Rattle.pbs_engine.specs.declared.command.Command.{Command}
 use Rattle.pbs_engine.specs.declared.command.Command.TheVariants as command
 use Rattle.pbs_engine.specs.declared.status.Status.{Status}
 use Rattle.pbs_engine.specs.declared.status.Status.TheVariants as status
-use Rattle.pbs_engine.specs.declared.verdict.Verdict.{Verdict}
-use Rattle.pbs_engine.specs.Award.{OfMonth, HasBadMonth, IsSpent}
-use Rattle.pbs_engine.specs.Check.{IsAccepted, IsRefused, HasBadInput, EndsReading}
+use Rattle.month_commands.specs.declared.verdict.Verdict.{Verdict}
+use Rattle.month_commands.specs.Award.{OfMonth, HasBadMonth, IsSpent}
+use Rattle.month_commands.specs.Check.{IsAccepted, IsRefused, HasBadInput, EndsReading}
 use Rattle.pbs_engine.specs.Words.{command_in}
 
 -- no read and no put has failed

@@ -9,7 +9,7 @@ use Rattle.shelf.specs.declared.fault.SinkFault.{SinkFault}
 use Rattle.shelf.specs.declared.fault.SinkFault.TheVariants.{PutFailed, NoMemory}
 use Rattle.pbs_engine.specs.Outcomes.{asked_by, status_of, text_of, written_by, IsRight, IsHandedIn, HasCause}
 use Rattle.pbs_engine.specs.Words.{command_in}
-use Rattle.pbs_engine.specs.Writes.{Leaves}
+use Rattle.month_files.specs.Writes.{Leaves}
 use Rattle.pbs_engine.specs.declared.outcome.Outcome.{Outcome}
 use Rattle.pbs_engine.specs.declared.status.Status.{Status}
 use Rattle.pbs_engine.specs.declared.status.Status.TheVariants as status

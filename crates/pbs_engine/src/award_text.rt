@@ -2,13 +2,13 @@
 ghost use Rattle.std.specs.Prelude.{◌≡◌, [], ◌∷◌, ◌++◌, codes, IfOk};
 ghost use Rattle.pbs_engine.specs.AwardTexts.{award_status, award_text, found_status, found_text, first_text, last_text, write_status, unwritten_text};
 
-use crate::award_stop::{AwardStop, Finding, Found};
 use crate::lines::{line_text, named, numbered, put_vector};
 use crate::month_ends::{bad_input_text, input_status, unread_status, unread_text};
 use crate::status::Status;
-use crate::writing::{Unwritten, WriteStop};
 use duty_calendar::{List, Memory};
 use field_text::put_bytes;
+use month_commands::{AwardStop, Finding, Found};
+use month_files::{Unwritten, WriteStop};
 use std::alloc::Global;
 
 /// How a run ends where a file was not written.

@@ -2,14 +2,12 @@
 ghost use Rattle.std.specs.Prelude.{◌≡◌, IfOk};
 ghost use Rattle.pbs_engine.specs.Outcomes.{status_of, text_of};
 
-use crate::award_stop::{AwardStop, Finding};
 use crate::award_text::{award_status, award_text};
-use crate::check_stop::CheckStop;
 use crate::check_text::{check_status, check_text};
 use crate::lines::line_text;
 use crate::status::Status;
-use crate::verdict::Verdict;
 use duty_calendar::{List, Memory};
+use month_commands::{AwardStop, CheckStop, Finding, Verdict};
 use std::alloc::Global;
 
 /// The usage line.

@@ -4,20 +4,19 @@ ghost use Rattle.shelf.specs.Files.{Files as Told};
 ghost use Rattle.shelf.specs.Puts.{with_piece};
 ghost use Rattle.pbs_engine.specs.declared.command.Command.TheVariants.{Check as ToCheck, Award as ToAward};
 ghost use Rattle.pbs_engine.specs.declared.status.Status.TheVariants.{Done};
-ghost use Rattle.pbs_engine.specs.declared.verdict.Verdict.{Verdict as Shown};
+ghost use Rattle.month_commands.specs.declared.verdict.Verdict.{Verdict as Shown};
 ghost use Rattle.pbs_engine.specs.AwardHeadline.{Awards, AwardsRead};
 ghost use Rattle.pbs_engine.specs.CheckTexts.{yes_text};
-ghost use Rattle.pbs_engine.specs.Handed.{FromTexts};
+ghost use Rattle.month_commands.specs.Handed.{FromTexts};
 ghost use Rattle.pbs_engine.specs.Headline.{Stands};
 ghost use Rattle.pbs_engine.specs.Rows.{IsQuiet, IsCalm, Rows};
 ghost use Rattle.pbs_engine.specs.Runs.{shelved, sunk, ComesTo, Says, Runs, RunCause};
 ghost use Rattle.pbs_engine.specs.Words.{command_in, WritesNothing};
 
-use crate::award::award;
-use crate::check::check;
 use crate::command::Command;
 use crate::outcome::Outcome;
 use crate::status::Status;
+use month_commands::{award, check};
 use shelf::{Shelf, Sink, SinkFault};
 use std::alloc::Global;
 

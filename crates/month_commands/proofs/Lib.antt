@@ -1,0 +1,4 @@
+pub mod Limits
+pub mod CheckLaws
+pub mod HandedLaws
+pub mod AwardLaws

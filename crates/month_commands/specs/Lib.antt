@@ -1,0 +1,5 @@
+pub mod CheckEnds
+pub mod Check
+pub mod Handed
+pub mod AwardEnds
+pub mod Award
