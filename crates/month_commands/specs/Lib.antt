@@ -3,3 +3,8 @@ pub mod Check
 pub mod Handed
 pub mod AwardEnds
 pub mod Award
+pub mod ShowEnds
+pub mod Show
+pub mod MakeEnds
+pub mod Make
+pub mod Trial

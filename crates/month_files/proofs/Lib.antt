@@ -2,3 +2,4 @@ pub mod Ends
 pub mod OneMonth
 pub mod Logged
 pub mod WriteLaws
+pub mod MemberEnds

@@ -3,14 +3,17 @@
 
 mod award_text;
 mod check_text;
-mod command;
 mod lines;
+mod make_text;
 mod month_ends;
 mod outcome;
 mod runner;
+mod show_text;
 mod status;
 #[cfg(test)]
 mod tests;
+mod trial_text;
+mod write_ends;
 
 pub use runner::run;
 pub use status::Status;
