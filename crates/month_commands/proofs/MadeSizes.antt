@@ -196,12 +196,12 @@ module _ (h : Horizon) (ps : List Pairing) (v : ArePairings h ps) where
 
   duties_short : length (duties_text h ps) ≤ 67108864
   duties_short =
-      let header : length (line duties_header) ≤ 100 = omega arith in
+      let header : length (line duties_header) ≡ 41 = refl in
       omega (arith, length-append (line duties_header) (lines (all_duty_rows h ps)), header, all_duty_lines h ps v.each, v.few)
 
   legs_short : length (legs_text h ps) ≤ 67108864
   legs_short =
-      let header : length (line legs_header) ≤ 100 = omega arith in
+      let header : length (line legs_header) ≡ 26 = refl in
       omega (arith, length-append (line legs_header) (lines (all_leg_rows h ps)), header, all_leg_lines h ps v.each, v.few)
 
 -- ---- members
@@ -231,7 +231,7 @@ crew_lines h (m ∷ ms) each =
 
 crew_short : (h : Horizon) (ms : List Member) → AreMembers h ms → length (crew_text ms) ≤ 67108864
 crew_short h ms v =
-    let header : length (line crew_header) ≤ 100 = omega arith in
+    let header : length (line crew_header) ≡ 16 = refl in
     omega (arith, length-append (line crew_header) (flat_map (λ m. line (crew_fields m)) ms), header, crew_lines h ms v.each, v.few)
 
 -- no member of a made month has an event
@@ -252,7 +252,7 @@ none_of_all h part (n ∷ ns) =
 
 events_short : (h : Horizon) (part : Part) (ns : List ℕ) → length (events_text h part (map member ns)) ≤ 67108864
 events_short h part ns =
-    let header : length (line event_header) ≤ 100 = omega arith in
+    let header : length (line event_header) ≡ 46 = refl in
     omega (arith, length-append (line event_header) (flat_map (events_of_member h part) (map member ns)), header, none_of_all h part ns)
 
 -- ---- bids
@@ -310,9 +310,12 @@ module _ (problem : Problem) where
 abbrev june : Values
 june = record { base = home; seat = codes "FO"; year = pos 2026; month = 6; offset = pos 0; days_off = 10 }
 
-june_short : length (rules_text june) ≤ 67108864
+june_length : length (rules_text june) ≡ 72
 unfolding rules_text home
-june_short = omega arith
+june_length = refl
+
+june_short : length (rules_text june) ≤ 67108864
+june_short = omega (arith, june_length)
 
 -- ---- the made month
 
