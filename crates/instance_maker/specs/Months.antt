@@ -14,6 +14,7 @@ use Rattle.roster_model.specs.declared.bid.Test.TheVariants.{Layover, Days}
 use Rattle.roster_model.specs.declared.bid.Wish.{Wish}
 use Rattle.roster_model.specs.declared.bid.Wish.TheVariants.{Fly, Avoid, Prefer, Off}
 use Rattle.roster_model.specs.declared.problem.Problem.{Problem}
+use Rattle.instance_maker.specs.declared.pairings.Trip.{Trip}
 use Rattle.instance_maker.specs.Draws.{Draw, ◌>>=◌, done, below, in_order}
 
 -- the base, and the four stations that pairings go to
@@ -35,47 +36,52 @@ member_name m = 77 ∷ decimal (m + 1)
 abbrev pub leg : List ℕ → List ℕ → ℕ → ℕ → Leg
 leg from to out_at in_at = record { from = from; to = to; flown = record { out_at = out_at; in_at = in_at } }
 
--- where a pairing of k duties to a station is before its duty of number d, and after its last
-abbrev pub place : ℕ → List ℕ → ℕ → List ℕ
-place k away d = if (d == 0) || (d == k) then home else away
+-- where the pairing is before its duty of number d, and after its last
+abbrev pub place : Trip → ℕ → List ℕ
+place trip d = if (d == 0) || (d == trip.duties) then home else trip.away
 
 -- the legs of a duty: there and back where it is the only one of its pairing, and else one
-abbrev pub legs : ℕ → List ℕ → ℕ → ℕ → ℕ → List Leg
-legs k away d report parked =
-    if k == 1 then leg home away (report + 60) (report + 120) ∷ leg away home (report + 180) (parked - 30) ∷ []
-    else leg (place k away d) (place k away (d + 1)) (report + 60) (parked - 30) ∷ []
+abbrev pub there_and_back : List ℕ → ℕ → ℕ → List Leg
+there_and_back away report parked =
+    leg home away (report + 60) (report + 120) ∷ leg away home (report + 180) (parked - 30) ∷ []
+
+abbrev pub legs : Trip → ℕ → ℕ → ℕ → List Leg
+legs trip d report parked = if trip.duties == 1 then there_and_back trip.away report parked
+    else leg (place trip d) (place trip (d + 1)) (report + 60) (parked - 30) ∷ []
 
 -- a duty that lasts so long; its crew stays at the station, unless it is the last one
-abbrev pub duty : ℕ → List ℕ → ℕ → ℕ → ℕ → Duty
-duty k away d report long = record {
+abbrev pub duty : Trip → ℕ → ℕ → ℕ → Duty
+duty trip d report long = record {
   report = report;
   parked = report + long;
   release = report + long + 30;
-  layover = if d + 1 == k then None else Some away;
-  legs = legs k away d report (report + long);
+  layover = if d + 1 == trip.duties then None else Some trip.away;
+  legs = legs trip d report (report + long);
 }
 
--- Duty d of a pairing of k that begins on a day: it reports from 7:00 to 9:00 and lasts five, six or seven hours.
-unfoldable pub drawn_duty : ℕ → List ℕ → ℕ → ℕ → Draw Duty
-drawn_duty k away first d = do
+-- Duty d of a pairing: it reports from 7:00 to 9:00 of its day, and lasts five, six or seven hours.
+unfoldable pub drawn_duty : Trip → ℕ → Draw Duty
+drawn_duty trip d = do
   h ← below 5
   f ← below 3
-  done (duty k away d (1440 * (first + d) + 420 + 30 * h) (300 + 60 * f))
+  done (duty trip d (1440 * (trip.first + d) + 420 + 30 * h) (300 + 60 * f))
 
--- the day on which pairing i begins, o days after the start of its stretch: the pairings fill six stretches of five
--- days in turn, one for each member in each of them
-abbrev pub first_day : ℕ → ℕ → ℕ → ℕ
-first_day members i o = 365 + 5 * (i / members % 6) + o
+-- Where and when pairing i goes. The month has six stretches of five days, and each stretch in turn has one pairing
+-- for each member; a pairing begins on the first or the second day of its stretch.
+unfoldable pub drawn_trip : ℕ → ℕ → Draw Trip
+drawn_trip members i = do
+  more ← below 3
+  late ← below 2
+  q ← below 4
+  done (record { duties = 1 + more; away = station q; first = 365 + 5 * (i / members % 6) + late })
 
--- a pairing of one to three duties on consecutive days
+-- a pairing of one to three duties on consecutive days, which one member is to fly
 unfoldable pub drawn_pairing : ℕ → ℕ → Draw Pairing
 drawn_pairing members i = do
-  more ← below 3
-  o ← below 2
-  q ← below 4
-  duties ← in_order (drawn_duty (1 + more) (station q) (first_day members i o)) (1 + more)
+  trip ← drawn_trip members i
+  duties ← in_order (drawn_duty trip) trip.duties
   c ← below 30
-  done (record { name = pairing_name i; need = 1; credit = 270 * (1 + more) + c; duties = duties })
+  done (record { name = pairing_name i; need = 1; credit = 270 * trip.duties + c; duties = duties })
 
 -- a filter of one test
 abbrev pub only : Test → List Atom

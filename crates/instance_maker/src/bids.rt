@@ -24,6 +24,7 @@ fn only(alloc: Global, test: Test) -> Result<Filter, Memory>
 }
 
 /// Draws a wish of a kind: to fly, to be off, to avoid layovers, to prefer a length.
+#[tactic(auto, unfolding(crate::specs::Months::drawn_wish))]
 fn draw_wish(alloc: Global, draws: &mut Draws, pairings: u32, kind: u32) -> Result<Wish, Memory>
     requires flown { kind ≡ 0 → 1 ≤ pairings }
     ensures drawn { IfOk result (λ made. drawn_wish pairings kind draws.old.state ≡ (made, draws.new.state)) }
@@ -46,6 +47,7 @@ fn draw_wish(alloc: Global, draws: &mut Draws, pairings: u32, kind: u32) -> Resu
 }
 
 /// Draws a bid.
+#[tactic(auto, unfolding(crate::specs::Months::drawn_bid))]
 fn draw_bid(alloc: Global, draws: &mut Draws, pairings: u32) -> Result<Bid, Memory>
     ensures drawn { IfOk result (λ made. drawn_bid pairings draws.old.state ≡ (made, draws.new.state)) }
 {
@@ -62,7 +64,7 @@ fn draw_three(alloc: Global, draws: &mut Draws, pairings: u32) -> Result<List<Bi
         ≡ (list, draws.new.state)) }
 {
     let mut list = List::new(alloc);
-    for _number in 0..3 {
+    for _number in 0..3_u32 {
         let made = draw_bid(alloc, draws, pairings)?;
         add(&mut list, made)?;
     }

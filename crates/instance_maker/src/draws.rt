@@ -10,6 +10,7 @@ pub struct Draws {
 
 impl Draws {
     /// The next number, of 31 bits.
+    #[tactic(auto, unfolding(crate::specs::Draws::after))]
     fn next(&mut self) -> u32
         ensures state { self.new.state ≡ after self.old.state }
         ensures value { result ≡ after self.old.state / 2 ^ 33 }
@@ -22,6 +23,7 @@ impl Draws {
     }
 
     /// A number below `limit`.
+    #[tactic(auto, unfolding(crate::specs::Draws::below))]
     pub fn below(&mut self, limit: u32) -> u32
         requires some { 1 ≤ limit }
         ensures drawn { below limit self.old.state ≡ (result, self.new.state) }

@@ -3,6 +3,7 @@
 
 mod bids;
 mod draws;
+mod laws;
 mod lists;
 mod month;
 mod names;
@@ -10,4 +11,5 @@ mod pairings;
 #[cfg(test)]
 mod tests;
 
+pub use laws::made_months_are_as_asked;
 pub use month::make;

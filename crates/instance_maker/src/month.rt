@@ -1,5 +1,5 @@
 //! The made month.
-ghost use Rattle.std.specs.Prelude.{◌≡◌, ◌≤◌, ◌<◌, IfOk, map};
+ghost use Rattle.std.specs.Prelude.{◌≡◌, ◌≤◌, ◌<◌, IfOk, map, pos};
 ghost use Rattle.std.specs.List.{range_with_len};
 ghost use Rattle.instance_maker.specs.Months.{member, AreMadeRules, IsMade};
 
@@ -13,7 +13,11 @@ use roster_model::Problem;
 use std::alloc::Global;
 
 /// June 2026 in UTC.
-fn june() -> Horizon {
+fn june() -> Horizon
+    ensures year { result.year ≡ pos 2026 }
+    ensures month { result.month ≡ 6 }
+    ensures offset { result.offset ≡ pos 0 }
+{
     match Horizon::new(2026, 6, 0) {
         Ok(horizon) => horizon,
         Err(_) => unreachable!(),

@@ -19,6 +19,7 @@ fn spelt(letters: [u8; 3]) -> Station
 }
 
 /// The base.
+#[tactic(auto, unfolding(crate::specs::Months::home))]
 pub fn home() -> Station
     ensures value { result ≡ home }
 {
@@ -26,6 +27,7 @@ pub fn home() -> Station
 }
 
 /// A station that pairings go to, by its number.
+#[tactic(auto, unfolding(crate::specs::Months::station))]
 pub fn station(number: u32) -> Station
     ensures value { result ≡ station number }
 {

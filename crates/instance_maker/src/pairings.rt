@@ -1,7 +1,7 @@
 //! Drawn pairings.
 ghost use Rattle.std.specs.Prelude.{◌≡◌, ◌+◌, ◌≤◌, ◌<◌, IfOk};
 ghost use Rattle.instance_maker.specs.Draws.{in_order};
-ghost use Rattle.instance_maker.specs.Months.{place, legs, duty, first_day, drawn_duty, drawn_pairing};
+ghost use Rattle.instance_maker.specs.Months.{place, there_and_back, legs, duty, drawn_duty, drawn_trip, drawn_pairing};
 
 use crate::draws::Draws;
 use crate::lists::{add, one};
@@ -11,15 +11,15 @@ use std::alloc::Global;
 
 /// What the duties of a pairing share: their number, the station that it goes to, and the day of the first one.
 #[derive(Clone, Copy)]
-struct Trip {
-    duties: u32,
-    away: Station,
-    first: u32,
+pub struct Trip {
+    pub duties: u32,
+    pub away: Station,
+    pub first: u32,
 }
 
 /// Where the pairing is before its duty of this number, and after its last.
 fn place(trip: &Trip, duty: u32) -> Station
-    ensures value { result ≡ place trip.now.duties trip.now.away duty }
+    ensures value { result ≡ place trip.now duty }
 {
     if duty == 0 || duty == trip.duties {
         home()
@@ -32,7 +32,7 @@ fn place(trip: &Trip, duty: u32) -> Station
 fn there_and_back(alloc: Global, away: Station, report: u32, parked: u32) -> Result<List<Leg>, Memory>
     requires times { report + 300 ≤ parked }
     requires within { parked ≤ 2_000_000 }
-    ensures value { IfOk result (λ list. list ≡ legs 1 away 0 report parked) }
+    ensures value { IfOk result (λ list. list ≡ there_and_back away report parked) }
 {
     let there = Leg {
         from: home(),
@@ -60,7 +60,7 @@ fn legs(alloc: Global, trip: &Trip, duty: u32, report: u32, parked: u32) -> Resu
     requires times { report + 300 ≤ parked }
     requires within { parked ≤ 2_000_000 }
     requires number { duty < trip.now.duties }
-    ensures value { IfOk result (λ list. list ≡ legs trip.now.duties trip.now.away duty report parked) }
+    ensures value { IfOk result (λ list. list ≡ legs trip.now duty report parked) }
 {
     if trip.duties == 1 {
         return there_and_back(alloc, trip.away, report, parked);
@@ -81,10 +81,11 @@ fn duty(alloc: Global, trip: &Trip, number: u32, report: u32, long: u32) -> Resu
     requires long { 300 ≤ long }
     requires within { report + long ≤ 2_000_000 }
     requires number { number < trip.now.duties }
-    ensures value { IfOk result (λ made. made ≡ duty trip.now.duties trip.now.away number report long) }
+    ensures value { IfOk result (λ made. made ≡ duty trip.now number report long) }
 {
+    let last = trip.duties;
     let parked = report + long;
-    let layover = if number + 1 == trip.duties {
+    let layover = if number + 1 == last {
         None
     } else {
         Some(trip.away)
@@ -99,11 +100,11 @@ fn duty(alloc: Global, trip: &Trip, number: u32, report: u32, long: u32) -> Resu
 }
 
 /// Draws a duty of a pairing.
+#[tactic(auto, unfolding(crate::specs::Months::drawn_duty))]
 fn draw_duty(alloc: Global, draws: &mut Draws, trip: &Trip, number: u32) -> Result<Duty, Memory>
     requires day { trip.now.first + number ≤ 1000 }
     requires number { number < trip.now.duties }
-    ensures drawn { IfOk result (λ made. drawn_duty trip.now.duties trip.now.away trip.now.first number draws.old.state
-        ≡ (made, draws.new.state)) }
+    ensures drawn { IfOk result (λ made. drawn_duty trip.now number draws.old.state ≡ (made, draws.new.state)) }
 {
     let half_hours = draws.below(5);
     let hours = draws.below(3);
@@ -114,8 +115,7 @@ fn draw_duty(alloc: Global, draws: &mut Draws, trip: &Trip, number: u32) -> Resu
 /// Draws the duties of a pairing.
 fn draw_duties(alloc: Global, draws: &mut Draws, trip: &Trip) -> Result<List<Duty>, Memory>
     requires days { trip.now.first + trip.now.duties ≤ 1000 }
-    ensures drawn { IfOk result (λ list.
-        in_order (drawn_duty trip.now.duties trip.now.away trip.now.first) trip.now.duties draws.old.state
+    ensures drawn { IfOk result (λ list. in_order (drawn_duty trip.now) trip.now.duties draws.old.state
         ≡ (list, draws.new.state)) }
 {
     let mut list = List::new(alloc);
@@ -127,8 +127,12 @@ fn draw_duties(alloc: Global, draws: &mut Draws, trip: &Trip) -> Result<List<Dut
 }
 
 /// Draws the duties, the station and the first day of the pairing of this number.
+#[tactic(auto, unfolding(crate::specs::Months::drawn_trip))]
 fn draw_trip(draws: &mut Draws, members: u32, number: u32) -> Trip
     requires some { 1 ≤ members }
+    ensures drawn { drawn_trip members number draws.old.state ≡ (result, draws.new.state) }
+    ensures short { result.duties ≤ 3 }
+    ensures soon { result.first ≤ 391 }
 {
     let duties = 1 + draws.below(3);
     let late = draws.below(2);
@@ -141,6 +145,7 @@ fn draw_trip(draws: &mut Draws, members: u32, number: u32) -> Trip
 }
 
 /// Draws the pairing of this number.
+#[tactic(auto, unfolding(crate::specs::Months::drawn_pairing))]
 fn draw_pairing(alloc: Global, draws: &mut Draws, members: u32, number: u32) -> Result<Pairing, Memory>
     requires some { 1 ≤ members }
     requires few { number < 600 }
