@@ -2,6 +2,8 @@ pub mod Bytes
 pub mod FaultLaws
 pub mod FieldLaws
 pub mod MemberLaws
+pub mod MonthOrder
+pub mod Months
 pub mod NameLaws
 pub mod Printed
 pub mod ReasonForms

@@ -1,4 +1,6 @@
 pub mod Codes
+pub mod MonthEntries
+pub mod MonthText
 pub mod NameReading
 pub mod ReasonFaults
 pub mod ReasonReading

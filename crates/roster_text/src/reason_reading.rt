@@ -90,7 +90,7 @@ fn cause_named(alloc: Global, problem: &Problem, cause: &[u8]) -> Result<Option<
 }
 
 /// How many bids the member has.
-fn bid_count(problem: &Problem, member: usize) -> u32
+pub fn bid_count(problem: &Problem, member: usize) -> u32
     requires member { member < length problem.now.base.members }
     ensures count { result ≡ length (bids_of problem.now member) }
 {

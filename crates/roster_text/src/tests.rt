@@ -16,7 +16,7 @@ use roster_model::{Bid, BidRef, Cause, Denial, Line, Problem, Reasons, Roster, W
 use std::alloc::Global;
 
 /// A list of one element.
-fn one<T: Drop>(alloc: Global, item: T) -> Result<List<T>, Memory>
+pub fn one<T: Drop>(alloc: Global, item: T) -> Result<List<T>, Memory>
     ensures items { IfOk result (λ list. list ≡ item ∷ []) }
 {
     let mut list = List::new(alloc);
@@ -27,7 +27,7 @@ fn one<T: Drop>(alloc: Global, item: T) -> Result<List<T>, Memory>
 }
 
 /// A duty with one leg.
-fn duty(alloc: Global, from: Station, to: Station) -> Result<Duty, Memory>
+pub fn duty(alloc: Global, from: Station, to: Station) -> Result<Duty, Memory>
     requires from { IsTrue (is_station_code from) }
     requires to { IsTrue (is_station_code to) }
     ensures form { IfOk result IsDuty }
@@ -48,7 +48,7 @@ fn duty(alloc: Global, from: Station, to: Station) -> Result<Duty, Memory>
 }
 
 /// A pairing with one duty.
-fn pairing(alloc: Global, name: Name, duty: Duty) -> Result<Pairing, Memory>
+pub fn pairing(alloc: Global, name: Name, duty: Duty) -> Result<Pairing, Memory>
     requires named { IsTrue (is_name name) }
     requires form { IsDuty duty }
     requires report { duty.report ≡ 538560 }
