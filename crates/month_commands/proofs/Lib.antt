@@ -4,4 +4,4 @@ pub mod HandedLaws
 pub mod AwardLaws
 pub mod ShowLaws
 pub mod MadeSizes
-pub mod OneMade
+pub mod TrialLaws

@@ -3,3 +3,4 @@ pub mod OneMonth
 pub mod Logged
 pub mod WriteLaws
 pub mod MemberEnds
+pub mod Drafted

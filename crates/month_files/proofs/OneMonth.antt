@@ -41,7 +41,7 @@ offset_prop o = hlevel props
 valid_prop : (base : Base) (bids : List (List Bid)) → IsProp (IsValid base bids)
 valid_prop base bids = hlevel props
 
-pub same_horizon : (a b : Horizon) → a.year ≡ b.year → a.month ≡ b.month → a.offset ≡ b.offset → a ≡ b
+same_horizon : (a b : Horizon) → a.year ≡ b.year → a.month ≡ b.month → a.offset ≡ b.offset → a ≡ b
 same_horizon a b y m o = λ i. record {
   year = y i;
   month = m i;
@@ -51,15 +51,15 @@ same_horizon a b y m o = λ i. record {
   offset_in = is_prop→PathP (λ j. IsOffset (o j)) (λ j. offset_prop (o j)) a.offset_in b.offset_in i;
 }
 
-pub same_rules : (a b : Rules) → values a ≡ values b → a ≡ b
+same_rules : (a b : Rules) → values a ≡ values b → a ≡ b
 same_rules a b e =
     let h : a.horizon ≡ b.horizon = same_horizon a.horizon b.horizon (ap (λ (v : Values). v.year) e) (ap (λ (v : Values). v.month) e) (ap (λ (v : Values). v.offset) e) in
     λ i. record { base = (e i).base; seat = (e i).seat; horizon = h i; days_off = (e i).days_off }
 
-pub same_base : (a b : Base) → a.rules ≡ b.rules → a.pairings ≡ b.pairings → a.members ≡ b.members → a ≡ b
+same_base : (a b : Base) → a.rules ≡ b.rules → a.pairings ≡ b.pairings → a.members ≡ b.members → a ≡ b
 same_base a b r p m = λ i. record { rules = r i; pairings = p i; members = m i }
 
-pub same_problem : (a b : Problem) → a.base ≡ b.base → a.bids ≡ b.bids → a ≡ b
+same_problem : (a b : Problem) → a.base ≡ b.base → a.bids ≡ b.bids → a ≡ b
 same_problem a b e f = λ i. record {
   base = e i;
   bids = f i;
