@@ -1,8 +1,9 @@
 -- Entries in order of time: the order is one, and a stable sort finds it.
-use Rattle.std.proofs.Common.{◌≡◌, ◌≢◌, ℕ, zero, suc, ◌+◌, ◌<◌, ◌≤◌, Bool, true, false, cond, not, ◌&&◌, eqb, leb, ltb, List, [], ◌∷◌, length, get_or, refl, sym, ap, subst, ◌∙◌, arith, ⊎_elim, le-refl, nat_cmp, is_lt}
+use Rattle.std.proofs.Common.{◌≡◌, ◌≢◌, ℕ, zero, suc, ◌+◌, ◌<◌, ◌≤◌, Bool, true, false, cond, not, ◌&&◌, eqb, leb, ltb, List, [], ◌∷◌, length, get_or, refl, sym, ap, subst, ◌∙◌, arith, ◌⊎◌, inl, inr, nat_cmp, is_lt}
 use Rattle.std.specs.Prelude.{All, filter}
 use Rattle.std.specs.List.Sorted.{IsPermutation, IsNonDecreasingBy, IsStableByKey, ties}
 use Rattle.std.proofs.lemmas.Bool.{cond_both, cond-true, cond-false, cases_order, leb-true, leb-false, ne_eqb, eq-eqb, eqb-true}
+use Rattle.std.proofs.lemmas.Bool.Decides.{nat_tests}
 use Rattle.std.proofs.lemmas.List.Elements.{All-cons, All-head, All-tail, filter_agree}
 use Rattle.std.proofs.lemmas.List.Sorted.{IsPermutation-refl, IsPermutation-cons, IsPermutation-trans, IsPermutation-middle, All-permutation, IsNonDecreasingBy-short}
 use Rattle.roster_model.specs.declared.problem.Problem.{Problem}
@@ -137,11 +138,11 @@ one_order (u ∷ us) [] up above same =
 one_order (u ∷ us) (v ∷ vs) up above same =
     by (cases_order (first u) (first v)) (one_order us vs (up_tail u us up) (up_tail v vs above))
   where
-    by : (first u < first v) ⊎ ((first u ≡ first v) ⊎ (first v < first u))
+    by : (first u ≡ first v) ⊎ ((first u < first v) ⊎ (first v < first u))
         → (((m : ℕ) → filter (begins m) us ≡ filter (begins m) vs) → us ≡ vs) → u ∷ us ≡ v ∷ vs
-    by (inl less) ih = absurd (too_late u us (v ∷ vs) (all_later (first u) v vs less above) (same (first u)))
+    by (inr (inl less)) ih = absurd (too_late u us (v ∷ vs) (all_later (first u) v vs less above) (same (first u)))
     by (inr (inr less)) ih = absurd (too_late v vs (u ∷ us) (all_later (first v) u us less up) (sym (same (first v))))
-    by (inr (inl e)) ih =
+    by (inl e) ih =
         let joined : u ∷ filter (begins (first u)) us ≡ v ∷ filter (begins (first v)) vs =
         sym (own u us) ∙ same (first u) ∙ ap (λ (m : ℕ). filter (begins m) (v ∷ vs)) e ∙ own v vs in
         let is : u ≡ v = heads u v _ _ joined in

@@ -1,9 +1,8 @@
 -- The lines of a month's view, as loops write them.
-use Rattle.std.proofs.Common.{◌≡◌, ℕ, suc, ◌+◌, ◌-◌, ◌<◌, ◌≤◌, List, [], ◌∷◌, ◌++◌, pos, ◌+ℤ◌, refl, sym, ap, ◌∙◌, append_assoc, arith}
+use Rattle.std.proofs.Common.{◌≡◌, ℕ, suc, ◌+◌, ◌-◌, ◌<◌, List, [], ◌∷◌, ◌++◌, pos, ◌+ℤ◌, refl, sym, ap, ◌∙◌, append_assoc, arith}
 use Rattle.std.specs.Prelude.{slice_get}
 use Rattle.std.specs.List.{flat_map, range_with_len}
 use Rattle.std.specs.Option.{option_map_or}
-use Rattle.std.proofs.lemmas.List.{append-nil}
 use Rattle.std.proofs.lemmas.List.Concat.{flat_map-cons}
 use Rattle.jiff_core.specs.Calendar.{weekday_number}
 use Rattle.duty_calendar.specs.declared.horizon.Horizon.{Horizon}
@@ -36,8 +35,3 @@ ranged f out new whole i stop lt e so_far =
     ∙ ap (λ (t : List ℕ). out ++ t) (sym (flat_map-cons f i (range_with_len (i + 1) (stop - (i + 1)))))
     ∙ ap (λ (k : ℕ). out ++ flat_map f (range_with_len i k)) (sym n)
     ∙ so_far
-
-pub ranged_all : (f : ℕ → List ℕ) (out whole : List ℕ) (i stop : ℕ) → stop ≤ i → out ++ flat_map f (range_with_len i (stop - i)) ≡ whole → out ≡ whole
-ranged_all f out whole i stop le so_far =
-    let n : stop - i ≡ 0 = omega arith in
-    sym (append-nil out) ∙ ap (λ (k : ℕ). out ++ flat_map f (range_with_len i k)) (sym n) ∙ so_far

@@ -3,6 +3,7 @@ ghost use Rattle.std.specs.Prelude.{◌≡◌, ◌++◌, ◌∷◌, ◌+◌, ◌
 ghost use Rattle.std.specs.List.{flat_map};
 ghost use Rattle.duty_calendar.specs.Calendar.{month_days};
 ghost use Rattle.field_text.specs.Spelling.{number_text, minutes_text};
+ghost use Rattle.roster_model.specs.Legality.{low_of, high_of};
 ghost use Rattle.roster_model.specs.Rosters.{line_at};
 ghost use Rattle.roster_model.specs.Scores.{bids_of};
 ghost use Rattle.bid_language.specs.Spelling.{weekday_word, day_word};
@@ -38,14 +39,29 @@ fn put_count(out: &mut List<u8>, front: &[u8], value: u32) -> Result<(), Memory>
     put_number(out, value)
 }
 
+/// The least credit of a member.
+fn low_of(problem: &Problem, member: u32) -> u32
+    requires member { member < length problem.now.base.members }
+    ensures value { result ≡ low_of problem.now member }
+{
+    problem.base.members.as_slice()[member as usize].low
+}
+
+/// The greatest credit of a member.
+fn high_of(problem: &Problem, member: u32) -> u32
+    requires member { member < length problem.now.base.members }
+    ensures value { result ≡ high_of problem.now member }
+{
+    problem.base.members.as_slice()[member as usize].high
+}
+
 /// Appends the least and the greatest credit of a member.
 fn put_window(out: &mut List<u8>, problem: &Problem, member: u32) -> Result<(), Memory>
     requires member { member < length problem.now.base.members }
     ensures whole { OnOk result (out.new ≡ out.old ++ window_text problem.now member) }
 {
-    let who = &problem.base.members.as_slice()[member as usize];
-    put_time(out, b" of ", who.low)?;
-    put_time(out, b" to ", who.high)
+    put_time(out, b" of ", low_of(problem, member))?;
+    put_time(out, b" to ", high_of(problem, member))
 }
 
 /// Appends the score and the days off of a line.

@@ -1,12 +1,12 @@
 //! The views of two members' months: one flies on a day that was wanted off, the other is on leave then.
-ghost use Rattle.std.specs.Prelude.{◌≡◌, ◌≢◌, ◌≤◌, ◌∷◌, [], length, All, IfOk, IfSome, IsTrue};
+ghost use Rattle.std.specs.Prelude.{◌≡◌, ◌≢◌, ◌≤◌, ◌∷◌, [], length, IfOk, IfSome, IsTrue};
 ghost use Rattle.duty_calendar.specs.Calendar.{month_days};
 ghost use Rattle.duty_calendar.specs.declared.horizon.Horizon.{Horizon as Month};
 ghost use Rattle.duty_calendar.specs.Forms.{is_name};
 ghost use Rattle.duty_calendar.specs.Checks.{IsFiled, IsRules, IsPairing, IsMember, AreMembers};
 
 use crate::print_month;
-use crate::tests::{duty, one, pairing};
+use crate::tests::{duty, member, one, pairing};
 use duty_calendar::{
     Base, Event, Horizon, Kind, List, Member, Memory, Name, Pairing, Rules, Station,
 };
@@ -28,7 +28,6 @@ fn two<T: Drop>(alloc: Global, first: T, second: T) -> Result<List<T>, Memory>
 fn leave(alloc: Global) -> Event
     ensures form { (h : Month) → 28 ≤ month_days h → IsFiled h result }
     ensures report { result.report ≡ 538560 }
-    ensures release { result.release ≡ 540000 }
 {
     Event {
         kind: Kind::Leave,
@@ -40,27 +39,26 @@ fn leave(alloc: Global) -> Event
     }
 }
 
-/// A member with these fixed events.
-fn member(alloc: Global, name: Name, fixed: List<Event>) -> Member
+/// A member with one fixed event, on the tenth of June.
+fn on_leave(alloc: Global, name: Name, leave: Event) -> Result<Member, Memory>
     requires named { IsTrue (is_name name) }
-    requires few { length fixed ≤ 1 }
-    requires form { (h : Month) → 28 ≤ month_days h → All (IsFiled h) fixed }
-    requires tenth { All (λ e. e.report ≡ 538560) fixed }
-    ensures form { (h : Month) → 28 ≤ month_days h → IsMember h result }
-    ensures name { result.name ≡ name }
+    requires form { (h : Month) → 28 ≤ month_days h → IsFiled h leave }
+    requires tenth { leave.report ≡ 538560 }
+    ensures form { IfOk result (λ m. (h : Month) → 28 ≤ month_days h → IsMember h m) }
+    ensures name { IfOk result (λ m. m.name ≡ name) }
 {
-    Member {
+    Ok(Member {
         name,
         low: 0,
         high: 5400,
         history: List::new(alloc),
-        fixed,
-    }
+        fixed: one(alloc, leave)?,
+    })
 }
 
 /// Two members.
 fn crew(alloc: Global, senior: Member, junior: Member) -> Result<List<Member>, Memory>
-    requires senior { (h : Month) → 28 ≤ month_days h → IsMember h senior }
+    requires senior { (h : Month) → IsMember h senior }
     requires junior { (h : Month) → 28 ≤ month_days h → IsMember h junior }
     requires apart { senior.name ≢ junior.name }
     ensures count { IfOk result (λ list. length list ≡ 2) }
@@ -108,9 +106,8 @@ fn members(alloc: Global) -> Result<List<Member>, Memory>
     if senior == junior {
         return Err(Memory::NoMemory);
     }
-    let senior = member(alloc, senior, List::new(alloc));
-    let junior = member(alloc, junior, one(alloc, leave(alloc))?);
-    crew(alloc, senior, junior)
+    let junior = on_leave(alloc, junior, leave(alloc))?;
+    crew(alloc, member(alloc, senior), junior)
 }
 
 /// June 2026 in Dublin.

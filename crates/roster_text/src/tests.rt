@@ -64,9 +64,10 @@ pub fn pairing(alloc: Global, name: Name, duty: Duty) -> Result<Pairing, Memory>
 }
 
 /// A member without events.
-fn member(alloc: Global, name: Name) -> Member
+pub fn member(alloc: Global, name: Name) -> Member
     requires named { IsTrue (is_name name) }
     ensures form { (h : Month) → IsMember h result }
+    ensures name { result.name ≡ name }
 {
     Member {
         name,
