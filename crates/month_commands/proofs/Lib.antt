@@ -4,4 +4,5 @@ pub mod HandedLaws
 pub mod AwardLaws
 pub mod ShowLaws
 pub mod MadeSizes
+pub mod MakeLaws
 pub mod TrialLaws

@@ -69,6 +69,10 @@ lines_append (x ∷ xs) ys = omega (arith, length-append (line x) (lines (xs ++ 
 
 -- ---- pairings, duties and legs
 
+no_lines : length (lines []) ≤ 0
+unfolding lines
+no_lines = omega arith
+
 pairing_row : (h : Horizon) (p : Pairing) → IsPairing h p → length (line (pairing_fields p)) ≤ 50
 pairing_row h p v =
     omega (
@@ -143,11 +147,7 @@ module _ (h : Horizon) (name : List ℕ) (named : length name ≤ 16) where
 
   duties_leg_lines : (number : ℕ) (ds : List Duty) → number + length ds < 10 ^ 10 → All IsDuty ds → length (lines (duties_leg_rows h name number ds)) ≤ 640 * length ds
   unfolding duties_leg_rows
-  duties_leg_lines number [] few each = none
-    where
-      none : length (lines []) ≤ 0
-      unfolding lines
-      none = omega arith
+  duties_leg_lines number [] few each = no_lines
   duties_leg_lines number (d ∷ ds) few each =
       let v = All-head IsDuty d ds each in
       omega (
@@ -157,10 +157,6 @@ module _ (h : Horizon) (name : List ℕ) (named : length name ≤ 16) where
         v.few_legs,
         duties_leg_lines (number + 1) ds (omega (arith, few)) (All-tail IsDuty d ds each),
       )
-
-no_lines : length (lines []) ≤ 0
-unfolding lines
-no_lines = omega arith
 
 all_duty_lines : (h : Horizon) (ps : List Pairing) → All (IsPairing h) ps → length (lines (all_duty_rows h ps)) ≤ 1200 * length ps
 unfolding all_duty_rows
