@@ -1,4 +1,7 @@
 //! The commands, as `clap` is told of them.
+ghost use Rattle.std.specs.Prelude.{◌≡◌, true, false, map, codes, Some, None, ⊥, IfOk, IfSome};
+ghost use Rattle.clap.specs.Words.{app_of, rule_of, new_app, with_rule, fields_of, subcommand_rows_of, subcommand_of, takes};
+ghost use Rattle.command_words.specs.Reading.{nodes_rule, needed_rule, sized_app, commands};
 
 use clap::error::ErrorKind;
 use clap::{Arg, ArgMatches, Command as Grammar};
@@ -6,17 +9,26 @@ use duty_calendar::Memory;
 use std::alloc::{AllocError, Global};
 
 /// The option `--nodes N`.
-fn nodes<'w>(alloc: Global) -> Arg<'w> {
+fn nodes<'w>(alloc: Global) -> Arg<'w>
+    ensures rule { rule_of result ≡ nodes_rule }
+    ensures here { result.global ≡ false }
+{
     Arg::new(alloc, "nodes").long("nodes")
 }
 
 /// An argument that may not be left out.
-fn needed<'w>(alloc: Global, id: &'w str) -> Arg<'w> {
+fn needed<'w>(alloc: Global, id: &'w str) -> Arg<'w>
+    ensures rule { rule_of result ≡ needed_rule id.entry.now }
+    ensures here { result.global ≡ false }
+{
     Arg::new(alloc, id).required(true)
 }
 
 /// A command with the three arguments of a made month.
-fn sized<'w>(alloc: Global, name: &'w str) -> Result<Grammar<'w>, AllocError> {
+fn sized<'w>(alloc: Global, name: &'w str) -> Result<Grammar<'w>, AllocError>
+    ensures shape { IfOk result (λ c. app_of c ≡ sized_app name.entry.now) }
+    ensures here { IfOk result (λ c. (fields_of c).has_globals ≡ false) }
+{
     Grammar::new(alloc, name)
         .arg(needed(alloc, "number"))?
         .arg(needed(alloc, "members"))?
@@ -24,7 +36,9 @@ fn sized<'w>(alloc: Global, name: &'w str) -> Result<Grammar<'w>, AllocError> {
 }
 
 /// The commands of the program. The words begin with the command's own.
-fn grammar<'w>(alloc: Global) -> Result<Grammar<'w>, AllocError> {
+fn grammar<'w>(alloc: Global) -> Result<Grammar<'w>, AllocError>
+    ensures shape { IfOk result (λ c. app_of c ≡ commands) }
+{
     let check = Grammar::new(alloc, "check");
     let award = Grammar::new(alloc, "award").arg(nodes(alloc))?;
     let show = Grammar::new(alloc, "show").arg(needed(alloc, "member"))?;
@@ -42,8 +56,12 @@ fn grammar<'w>(alloc: Global) -> Result<Grammar<'w>, AllocError> {
 /// What `clap` reads from the words, or nothing where it refuses them.
 pub(crate) fn parse<'w>(
     alloc: Global,
-    words: &'w [String],
-) -> Result<Option<ArgMatches<'w>>, Memory> {
+    words: &'w [&'w str],
+) -> Result<Option<ArgMatches<'w>>, Memory>
+    ensures refused { IfOk result (λ read. read ≡ None → takes commands (map (λ w. w.now) words.entry.now) ≡ true → ⊥) }
+    ensures found { IfOk result (λ read. IfSome read (λ m.
+        subcommand_rows_of m ≡ subcommand_of commands (map (λ w. w.now) words.entry.now))) }
+{
     match grammar(alloc)?.try_get_matches_from(words) {
         Ok(matches) => Ok(Some(matches)),
         Err(error) => {
