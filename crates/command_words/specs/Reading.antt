@@ -20,12 +20,9 @@ abbrev pub sized_app : Text → App
 sized_app name = with_rule (with_rule (with_rule (new_app name) (needed_rule (codes "number")))
     (needed_rule (codes "members"))) (needed_rule (codes "pairings"))
 
-abbrev pub program : App
-program = record (new_app (codes "pbs")) { top = record (new_app (codes "pbs")).top { no_binary_name = true } }
-
 abbrev pub commands : App
 commands =
-    with_subcommand (with_subcommand (with_subcommand (with_subcommand (with_subcommand program
+    with_subcommand (with_subcommand (with_subcommand (with_subcommand (with_subcommand (new_app (codes "pbs"))
     (new_app (codes "check")).top)
     (with_rule (new_app (codes "award")) nodes_rule).top)
     (with_rule (new_app (codes "show")) (needed_rule (codes "member"))).top)
@@ -112,6 +109,6 @@ named_read word rest t =
     else (if bytes_eq word (codes "trial") then trial_read rest t.nodes t.number t.members t.pairings
     else None))))
 
--- the texts that clap reads of words, where it goes to a command
+-- the texts that clap reads of the words behind the program's name, where it goes to a command
 abbrev pub texts_of : List Text → Option Texts
-texts_of words = option_map (λ p. texts_in p.1) (subcommand_of commands words)
+texts_of words = option_map (λ p. texts_in p.1) (subcommand_of commands (codes "pbs" ∷ words))

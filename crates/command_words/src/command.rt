@@ -1,5 +1,5 @@
 //! The commands.
-ghost use Rattle.std.specs.Prelude.{◌≡◌, codes, map, option_map, string_bytes, IfOk, IfSome};
+ghost use Rattle.std.specs.Prelude.{◌≡◌, ◌∷◌, ℕ, List as Sequence, codes, map, option_map, string_bytes, IfOk, IfSome};
 ghost use Rattle.clap.specs.Words.{found_of, first_value, rows_of};
 ghost use Rattle.command_words.specs.Numbers.{nodes_in, sizes_in};
 ghost use Rattle.command_words.specs.declared.command.Command.TheVariants.{Show};
@@ -45,7 +45,7 @@ pub enum Command {
 
 /// The number of nodes that an option allows.
 fn nodes_allowed(option: Option<&str>) -> Option<u32>
-    ensures value { result ≡ nodes_in (option_map (λ w. w.now) option) }
+    ensures value { result ≡ nodes_in (option_map (λ w. w.now) option.entry) }
 {
     match option {
         Some(word) => number_within(word, 1, MOST_NODES),
@@ -107,7 +107,7 @@ fn name<'w>(words: &[&str], found: &ArgMatches<'w>) -> Option<&'w str>
 
 /// The sizes that were read, where the words are their arguments, with this option among them where there is one.
 fn sizes_found(words: &[&str], found: &ArgMatches<'_>, option: Option<&str>) -> Option<Sizes>
-    ensures value { result ≡ sizes_read (map (λ w. w.now) words.now) (option_map (λ w. w.now) option)
+    ensures value { result ≡ sizes_read (map (λ w. w.now) words.now) (option_map (λ w. w.now) option.entry)
         (first_value (found_of found.now) (codes "number")) (first_value (found_of found.now) (codes "members"))
         (first_value (found_of found.now) (codes "pairings")) }
 {
@@ -190,11 +190,15 @@ fn named(
     Ok(None)
 }
 
-/// The command of texts, if they are one.
+/// The command of the texts behind the program's name, if they are one.
 fn command_of(alloc: Global, texts: &[&str]) -> Result<Option<Command>, Memory>
-    ensures value { IfOk result (λ read. read ≡ command_in (map (λ w. w.now) texts.now)) }
+    ensures value { (words : Sequence (Sequence ℕ)) → map (λ w. w.now) texts.now ≡ codes "pbs" ∷ words
+        → IfOk result (λ read. read ≡ command_in words) }
 {
-    let Some((first, rest)) = texts.split_first() else {
+    let Some((_, words)) = texts.split_first() else {
+        return Ok(None);
+    };
+    let Some((first, rest)) = words.split_first() else {
         return Ok(None);
     };
     let Some(matches) = parse(alloc, texts)? else {
@@ -214,6 +218,7 @@ impl Command {
         ensures range { IfOk result (λ read. IfSome read HasLimits) }
     {
         let mut texts = Vec::new(alloc);
+        texts.push("pbs")?;
         for word in words {
             texts.push(word.as_str())?;
         }

@@ -1,7 +1,7 @@
 //! The commands, as `clap` is told of them.
-ghost use Rattle.std.specs.Prelude.{◌≡◌, true, false, map, codes, Some, None, ⊥, IfOk, IfSome};
-ghost use Rattle.clap.specs.Words.{app_of, rule_of, new_app, with_rule, fields_of, subcommand_rows_of, subcommand_of, takes};
-ghost use Rattle.command_words.specs.Reading.{nodes_rule, needed_rule, sized_app, commands};
+ghost use Rattle.std.specs.Prelude.{◌≡◌, true, false, map, None, IfOk, IfSome};
+ghost use Rattle.clap.specs.Words.{app_of, rule_of, subcommand_rows_of, subcommand_of, takes};
+ghost use Rattle.command_words.specs.Reading.{nodes_rule, needed_rule, commands};
 
 use clap::error::ErrorKind;
 use clap::{Arg, ArgMatches, Command as Grammar};
@@ -24,28 +24,23 @@ fn needed<'w>(alloc: Global, id: &'w str) -> Arg<'w>
     Arg::new(alloc, id).required(true)
 }
 
-/// A command with the three arguments of a made month.
-fn sized<'w>(alloc: Global, name: &'w str) -> Result<Grammar<'w>, AllocError>
-    ensures shape { IfOk result (λ c. app_of c ≡ sized_app name.entry.now) }
-    ensures here { IfOk result (λ c. (fields_of c).has_globals ≡ false) }
-{
-    Grammar::new(alloc, name)
-        .arg(needed(alloc, "number"))?
-        .arg(needed(alloc, "members"))?
-        .arg(needed(alloc, "pairings"))
-}
-
-/// The commands of the program. The words begin with the command's own.
+/// The commands of the program.
 fn grammar<'w>(alloc: Global) -> Result<Grammar<'w>, AllocError>
     ensures shape { IfOk result (λ c. app_of c ≡ commands) }
 {
     let check = Grammar::new(alloc, "check");
     let award = Grammar::new(alloc, "award").arg(nodes(alloc))?;
     let show = Grammar::new(alloc, "show").arg(needed(alloc, "member"))?;
-    let make = sized(alloc, "make")?;
-    let trial = sized(alloc, "trial")?.arg(nodes(alloc))?;
+    let make = Grammar::new(alloc, "make")
+        .arg(needed(alloc, "number"))?
+        .arg(needed(alloc, "members"))?
+        .arg(needed(alloc, "pairings"))?;
+    let trial = Grammar::new(alloc, "trial")
+        .arg(needed(alloc, "number"))?
+        .arg(needed(alloc, "members"))?
+        .arg(needed(alloc, "pairings"))?
+        .arg(nodes(alloc))?;
     Grammar::new(alloc, "pbs")
-        .no_binary_name(true)
         .subcommand(check)?
         .subcommand(award)?
         .subcommand(show)?
@@ -53,7 +48,7 @@ fn grammar<'w>(alloc: Global) -> Result<Grammar<'w>, AllocError>
         .subcommand(trial)
 }
 
-/// What `clap` reads from the words, or nothing where it refuses them.
+/// What `clap` reads from the words, of which the first is the program's name, or nothing where it refuses them.
 pub(crate) fn parse<'w>(
     alloc: Global,
     words: &'w [&'w str],
@@ -62,7 +57,8 @@ pub(crate) fn parse<'w>(
     ensures found { IfOk result (λ read. IfSome read (λ m.
         subcommand_rows_of m ≡ subcommand_of commands (map (λ w. w.now) words.entry.now))) }
 {
-    match grammar(alloc)?.try_get_matches_from(words) {
+    let commands = grammar(alloc)?;
+    match commands.try_get_matches_from(words) {
         Ok(matches) => Ok(Some(matches)),
         Err(error) => {
             if error.kind() == ErrorKind::OutOfMemory {

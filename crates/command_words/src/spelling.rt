@@ -51,7 +51,7 @@ fn has_option(words: &[&str], nodes: &str, arguments: &[&str]) -> bool
 /// Whether the words are the arguments in their order, with the option among them where there is one.
 pub(crate) fn stands(words: &[&str], arguments: &[&str], option: Option<&str>) -> bool
     ensures value { result ≡ stands (map (λ w. w.now) words.now) (map (λ w. w.now) arguments.now)
-        (option_map (λ w. w.now) option) }
+        (option_map (λ w. w.now) option.entry) }
 {
     match option {
         Some(nodes) => has_option(words, nodes, arguments),

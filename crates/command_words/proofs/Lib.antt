@@ -1,0 +1,5 @@
+pub mod Forms
+pub mod Laws
+pub mod Tests
+pub mod Whole
+pub mod Numbers
