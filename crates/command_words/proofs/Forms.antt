@@ -47,8 +47,8 @@ sized a b c option = record { nodes = option; member = None; number = Some a; me
 pub make_form : (a b c : Text) → IsPlain a → IsPlain b → IsPlain c → Reads (codes "make" ∷ a ∷ b ∷ c ∷ []) (sized a b c None)
 unfolding clap_on_literals
 make_form a b c p q r = record {
-  taken = simp (p.trail, p.flag) (simp (q.trail, q.flag) (simp (r.trail, r.flag) refl));
-  found = simp (p.trail, p.flag) (simp (q.trail, q.flag) (simp (r.trail, r.flag) refl));
+  taken = simp (p.trail, p.flag, q.trail, q.flag, r.trail, r.flag) refl;
+  found = simp (p.trail, p.flag, q.trail, q.flag, r.trail, r.flag) refl;
 }
 
 pub trial_form : (a b c : Text) → IsPlain a → IsPlain b → IsPlain c → Reads (codes "trial" ∷ a ∷ b ∷ c ∷ []) (sized a b c None)

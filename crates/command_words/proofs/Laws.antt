@@ -152,7 +152,7 @@ spelt_read _ _ (show name plain) = rw plain refl
 spelt_read _ _ (make a b c sizes written) = ap (option_map (λ (s : Sizes). Make s)) written
 spelt_read _ _ (trial rest a b c option sizes nodes stands written allowed) =
     let plain = sizes_plain a b c sizes written in
-    ap (λ (p : Parts). trial_in p.arguments p.nodes) (stands_out (a ∷ b ∷ c ∷ []) option rest (plain.first, plain.second, plain.third, tt) stands)
+    ap (λ (p : Parts). trial_in p.arguments p.nodes) (stands_out (a ∷ b ∷ c ∷ []) option rest (plain.first, (plain.second, (plain.third, tt))) stands)
     ∙ rw (written, allowed) refl
 
 -- ---- a command that is read is spelt

@@ -3,3 +3,4 @@ pub mod Laws
 pub mod Tests
 pub mod Whole
 pub mod Numbers
+pub mod Steps

@@ -8,7 +8,10 @@ use Rattle.std.proofs.lemmas.Slice.Eq.{bytes_eq-Decides}
 use Rattle.std.specs.Str.{bytes_eq}
 use Rattle.clap.specs.Lexer.{strip_byte}
 use Rattle.clap.specs.Walk.{Text}
-use Rattle.clap.specs.Words.{Row, takes, subcommand_of}
+use Rattle.clap.specs.Words.{Row, takes, subcommand_of, found_of, rows_of}
+use Rattle.clap.specs.declared.parser.matches.ArgMatches.{ArgMatches}
+use Rattle.clap.proofs.WalkLemmas.{first_value-rows}
+use Rattle.command_words.specs.Found.{texts_found}
 use Rattle.field_text.specs.Fields.{number_field}
 use Rattle.field_text.specs.declared.field_fault.FieldFault.{FieldFault}
 use Rattle.command_words.specs.Numbers.{within, number_in, long_in, nodes_in, sizes_in, AreNodes, AreSizes}
@@ -217,11 +220,16 @@ some_rows : (o : Option (Text × List Row)) (rows : List Row) → option_map (λ
 some_rows None rows h = absurd cc
 some_rows (Some p) rows h = ap (option_map texts_in) h
 
-pub end_found : (texts words : List Text) (name first : Text) (rest : List Text) (rows : List Row) (read : Option Command)
-    → texts ≡ codes "pbs" ∷ words → texts ≡ name ∷ first ∷ rest
-    → option_map (λ p. p.1) (subcommand_of commands texts) ≡ Some rows → read ≡ named_read first rest (texts_in rows) → read ≡ command_in words
-end_found texts words name first rest rows read e f h r =
-    let same : words ≡ first ∷ rest = tail_same (codes "pbs") name words (first ∷ rest) (sym e ∙ f) in
+pub found_same : (m : ArgMatches) → texts_found m ≡ texts_in (rows_of (found_of m))
+found_same m =
+    rw (first_value-rows (found_of m) (codes "nodes"), first_value-rows (found_of m) (codes "member"), first_value-rows (found_of m) (codes "number"),
+    first_value-rows (found_of m) (codes "members"), first_value-rows (found_of m) (codes "pairings")) refl
+
+pub end_found : (texts words : List Text) (name head : Text) (rest : List Text) (rows : List Row) (read : Option Command)
+    → texts ≡ codes "pbs" ∷ words → texts ≡ name ∷ head ∷ rest
+    → option_map (λ p. p.1) (subcommand_of commands texts) ≡ Some rows → read ≡ named_read head rest (texts_in rows) → read ≡ command_in words
+end_found texts words name head rest rows read e f h r =
+    let same : words ≡ head ∷ rest = tail_same (codes "pbs") name words (head ∷ rest) (sym e ∙ f) in
     r ∙ ap (λ (l : List Text). reads_as l (texts_in rows)) (sym same)
     ∙ found_command words (texts_in rows) (some_rows (subcommand_of commands (codes "pbs" ∷ words)) rows (ap (λ (t : List Text). option_map (λ p. p.1) (subcommand_of commands t)) (sym e) ∙ h))
 

@@ -1,11 +1,12 @@
 //! The commands.
 ghost use Rattle.std.specs.Prelude.{◌≡◌, ◌∷◌, ℕ, List as Sequence, codes, map, option_map, string_bytes, IfOk, IfSome};
-ghost use Rattle.clap.specs.Words.{found_of, first_value, rows_of};
+ghost use Rattle.clap.specs.Words.{found_of, first_value};
 ghost use Rattle.command_words.specs.Numbers.{nodes_in, sizes_in};
 ghost use Rattle.command_words.specs.declared.command.Command.TheVariants.{Show};
 ghost use Rattle.command_words.specs.Words.{check_in, command_in, HasLimits};
 ghost use Rattle.command_words.specs.Spelling.{IsSpelt};
-ghost use Rattle.command_words.specs.Reading.{award_read, name_read, sizes_read, make_read, trial_read, named_read, texts_in};
+ghost use Rattle.command_words.specs.Reading.{award_read, name_read, sizes_read, make_read, trial_read, named_read};
+ghost use Rattle.command_words.specs.Found.{texts_found};
 
 use crate::grammar::parse;
 use crate::number::{number_within, read_long};
@@ -170,7 +171,7 @@ fn named(
     found: &ArgMatches<'_>,
 ) -> Result<Option<Command>, Memory>
     ensures value { IfOk result (λ read. read
-        ≡ named_read word.now (map (λ w. w.now) words.now) (texts_in (rows_of (found_of found.now)))) }
+        ≡ named_read word.now (map (λ w. w.now) words.now) (texts_found found.now)) }
 {
     if word == "check" {
         return Ok(check(words));

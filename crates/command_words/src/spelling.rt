@@ -2,13 +2,33 @@
 //! empty name.
 ghost use Rattle.std.specs.Prelude.{◌≡◌, map, option_map};
 ghost use Rattle.command_words.specs.Words.{is_argument};
-ghost use Rattle.command_words.specs.Reading.{joins, same_words, begins, has_option, stands};
+ghost use Rattle.command_words.specs.Reading.{joins, same_words, begins_apart, begins, has_option, stands};
 
 /// Whether the word is `--nodes=` and this number.
 fn joins(word: &str, nodes: &str) -> bool
     ensures value { result ≡ joins word.now nodes.now }
 {
-    word.as_bytes().strip_prefix(b"--nodes=") == Some(nodes.as_bytes())
+    match word.as_bytes().strip_prefix(b"--nodes=") {
+        Some(number) => number == nodes.as_bytes(),
+        None => false,
+    }
+}
+
+/// Whether the words are these, one by one.
+fn are_same(words: &[&str], arguments: &[&str]) -> bool
+    ensures value { result ≡ same_words (map (λ w. w.now) words.now) (map (λ w. w.now) arguments.now) }
+{
+    words == arguments
+}
+
+/// Whether the words are a number, and then these arguments.
+fn begins_apart(words: &[&str], nodes: &str, arguments: &[&str]) -> bool
+    ensures value { result ≡ begins_apart (map (λ w. w.now) words.now) nodes.now (map (λ w. w.now) arguments.now) }
+{
+    let Some((value, after)) = words.split_first() else {
+        return false;
+    };
+    *value == nodes && are_same(after, arguments)
 }
 
 /// Whether the words are an option, in one word or two, and then these arguments.
@@ -19,15 +39,9 @@ fn begins(words: &[&str], nodes: &str, arguments: &[&str]) -> bool
         return false;
     };
     if joins(option, nodes) {
-        return after == arguments;
+        return are_same(after, arguments);
     }
-    if *option != "--nodes" {
-        return false;
-    }
-    let Some((value, after)) = after.split_first() else {
-        return false;
-    };
-    *value == nodes && after == arguments
+    *option == "--nodes" && begins_apart(after, nodes, arguments)
 }
 
 /// Whether the words are the arguments in their order, with this option among them.
@@ -55,7 +69,7 @@ pub(crate) fn stands(words: &[&str], arguments: &[&str], option: Option<&str>) -
 {
     match option {
         Some(nodes) => has_option(words, nodes, arguments),
-        None => words == arguments,
+        None => are_same(words, arguments),
     }
 }
 
