@@ -54,62 +54,62 @@ make_form a b c p q r = record {
 pub trial_form : (a b c : Text) → IsPlain a → IsPlain b → IsPlain c → Reads (codes "trial" ∷ a ∷ b ∷ c ∷ []) (sized a b c None)
 unfolding clap_on_literals
 trial_form a b c p q r = record {
-  taken = simp (p.trail, p.flag) (simp (q.trail, q.flag) (simp (r.trail, r.flag) refl));
-  found = simp (p.trail, p.flag) (simp (q.trail, q.flag) (simp (r.trail, r.flag) refl));
+  taken = simp (p.trail, p.flag) (simp (q.trail, q.flag) (rw (r.trail, r.flag, r.flag) refl));
+  found = simp (p.trail, p.flag) (simp (q.trail, q.flag) (rw (r.trail, r.flag, r.flag) refl));
 }
 
 pub two_first : (a b c n : Text) → IsPlain a → IsPlain b → IsPlain c → IsPlain n → Reads (codes "trial" ∷ codes "--nodes" ∷ n ∷ a ∷ b ∷ c ∷ []) (sized a b c (Some n))
 unfolding clap_on_literals
 two_first a b c n p q r s = record {
-  taken = simp (s.trail, s.flag) (simp (p.trail, p.flag) (simp (q.trail, q.flag) (simp (r.trail, r.flag) refl)));
-  found = simp (s.trail, s.flag) (simp (p.trail, p.flag) (simp (q.trail, q.flag) (simp (r.trail, r.flag) refl)));
+  taken = simp (s.trail, s.flag) (simp (p.trail, p.flag) (simp (q.trail, q.flag) (rw (r.trail, r.flag, r.flag) refl)));
+  found = simp (s.trail, s.flag) (simp (p.trail, p.flag) (simp (q.trail, q.flag) (rw (r.trail, r.flag, r.flag) refl)));
 }
 
 pub one_first : (a b c n : Text) → IsPlain a → IsPlain b → IsPlain c → Reads (codes "trial" ∷ (codes "--nodes=" ++ n) ∷ a ∷ b ∷ c ∷ []) (sized a b c (Some n))
 unfolding clap_on_literals
 one_first a b c n p q r = record {
-  taken = simp (p.trail, p.flag) (simp (q.trail, q.flag) (simp (r.trail, r.flag) refl));
-  found = simp (p.trail, p.flag) (simp (q.trail, q.flag) (simp (r.trail, r.flag) refl));
+  taken = simp (p.trail, p.flag) (simp (q.trail, q.flag) (rw (r.trail, r.flag, r.flag) refl));
+  found = simp (p.trail, p.flag) (simp (q.trail, q.flag) (rw (r.trail, r.flag, r.flag) refl));
 }
 
 pub two_second : (a b c n : Text) → IsPlain a → IsPlain b → IsPlain c → IsPlain n → Reads (codes "trial" ∷ a ∷ codes "--nodes" ∷ n ∷ b ∷ c ∷ []) (sized a b c (Some n))
 unfolding clap_on_literals
 two_second a b c n p q r s = record {
-  taken = simp (p.trail, p.flag) (simp (s.trail, s.flag) (simp (q.trail, q.flag) (simp (r.trail, r.flag) refl)));
-  found = simp (p.trail, p.flag) (simp (s.trail, s.flag) (simp (q.trail, q.flag) (simp (r.trail, r.flag) refl)));
+  taken = simp (p.trail, p.flag) (simp (s.trail, s.flag) (simp (q.trail, q.flag) (rw (r.trail, r.flag, r.flag) refl)));
+  found = simp (p.trail, p.flag) (simp (s.trail, s.flag) (simp (q.trail, q.flag) (rw (r.trail, r.flag, r.flag) refl)));
 }
 
 pub one_second : (a b c n : Text) → IsPlain a → IsPlain b → IsPlain c → Reads (codes "trial" ∷ a ∷ (codes "--nodes=" ++ n) ∷ b ∷ c ∷ []) (sized a b c (Some n))
 unfolding clap_on_literals
 one_second a b c n p q r = record {
-  taken = simp (p.trail, p.flag) (simp (q.trail, q.flag) (simp (r.trail, r.flag) refl));
-  found = simp (p.trail, p.flag) (simp (q.trail, q.flag) (simp (r.trail, r.flag) refl));
+  taken = simp (p.trail, p.flag) (simp (q.trail, q.flag) (rw (r.trail, r.flag, r.flag) refl));
+  found = simp (p.trail, p.flag) (simp (q.trail, q.flag) (rw (r.trail, r.flag, r.flag) refl));
 }
 
 pub two_third : (a b c n : Text) → IsPlain a → IsPlain b → IsPlain c → IsPlain n → Reads (codes "trial" ∷ a ∷ b ∷ codes "--nodes" ∷ n ∷ c ∷ []) (sized a b c (Some n))
 unfolding clap_on_literals
 two_third a b c n p q r s = record {
-  taken = simp (p.trail, p.flag) (simp (q.trail, q.flag) (simp (s.trail, s.flag) (simp (r.trail, r.flag) refl)));
-  found = simp (p.trail, p.flag) (simp (q.trail, q.flag) (simp (s.trail, s.flag) (simp (r.trail, r.flag) refl)));
+  taken = simp (p.trail, p.flag) (simp (q.trail, q.flag) (simp (s.trail, s.flag) (rw (r.trail, r.flag, r.flag) refl)));
+  found = simp (p.trail, p.flag) (simp (q.trail, q.flag) (simp (s.trail, s.flag) (rw (r.trail, r.flag, r.flag) refl)));
 }
 
 pub one_third : (a b c n : Text) → IsPlain a → IsPlain b → IsPlain c → Reads (codes "trial" ∷ a ∷ b ∷ (codes "--nodes=" ++ n) ∷ c ∷ []) (sized a b c (Some n))
 unfolding clap_on_literals
 one_third a b c n p q r = record {
-  taken = simp (p.trail, p.flag) (simp (q.trail, q.flag) (simp (r.trail, r.flag) refl));
-  found = simp (p.trail, p.flag) (simp (q.trail, q.flag) (simp (r.trail, r.flag) refl));
+  taken = simp (p.trail, p.flag) (simp (q.trail, q.flag) (rw (r.trail, r.flag, r.flag) refl));
+  found = simp (p.trail, p.flag) (simp (q.trail, q.flag) (rw (r.trail, r.flag, r.flag) refl));
 }
 
 pub two_last : (a b c n : Text) → IsPlain a → IsPlain b → IsPlain c → IsPlain n → Reads (codes "trial" ∷ a ∷ b ∷ c ∷ codes "--nodes" ∷ n ∷ []) (sized a b c (Some n))
 unfolding clap_on_literals
 two_last a b c n p q r s = record {
-  taken = simp (p.trail, p.flag) (simp (q.trail, q.flag) (simp (r.trail, r.flag) (simp (s.trail, s.flag) refl)));
-  found = simp (p.trail, p.flag) (simp (q.trail, q.flag) (simp (r.trail, r.flag) (simp (s.trail, s.flag) refl)));
+  taken = simp (p.trail, p.flag) (simp (q.trail, q.flag) (simp (r.trail, r.flag) (rw (s.trail, s.flag, s.flag) refl)));
+  found = simp (p.trail, p.flag) (simp (q.trail, q.flag) (simp (r.trail, r.flag) (rw (s.trail, s.flag, s.flag) refl)));
 }
 
 pub one_last : (a b c n : Text) → IsPlain a → IsPlain b → IsPlain c → Reads (codes "trial" ∷ a ∷ b ∷ c ∷ (codes "--nodes=" ++ n) ∷ []) (sized a b c (Some n))
 unfolding clap_on_literals
 one_last a b c n p q r = record {
-  taken = simp (p.trail, p.flag) (simp (q.trail, q.flag) (simp (r.trail, r.flag) refl));
-  found = simp (p.trail, p.flag) (simp (q.trail, q.flag) (simp (r.trail, r.flag) refl));
+  taken = simp (p.trail, p.flag) (simp (q.trail, q.flag) (rw (r.trail, r.flag, r.flag) refl));
+  found = simp (p.trail, p.flag) (simp (q.trail, q.flag) (rw (r.trail, r.flag, r.flag) refl));
 }
