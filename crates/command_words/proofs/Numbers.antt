@@ -203,3 +203,11 @@ parsed (b ∷ bs) (Err e) h k =
       | inl fits ↦ absurd (k ((subst (λ (x : List ℕ). IsNumeral 10 x) (sym t) (omega arith, s.digits)), subst (λ (x : List ℕ). digits_value 10 x < 2 ^ 64) (sym t) fits))
       | inr above ↦ above
     ])
+
+pub parsed_ok : {E : Type 0} (word : List ℕ) (r : Result ℕ E) (n : ℕ) → r ≡ Ok n → number_field word ≡ Err Range → ParsesUnsigned 64 10 word r
+    → Some n ≡ long_in word
+parsed_ok {E} word r n e h k = sym (parsed {E = E} word (Ok n) h (subst (λ (x : Result ℕ E). ParsesUnsigned 64 10 word x) e k))
+
+pub parsed_err : {E : Type 0} (word : List ℕ) (r : Result ℕ E) (fault : E) → r ≡ Err fault → number_field word ≡ Err Range → ParsesUnsigned 64 10 word r
+    → None ≡ long_in word
+parsed_err {E} word r fault e h k = sym (parsed {E = E} word (Err fault) h (subst (λ (x : Result ℕ E). ParsesUnsigned 64 10 word x) e k))
