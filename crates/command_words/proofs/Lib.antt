@@ -4,3 +4,4 @@ pub mod Tests
 pub mod Whole
 pub mod Numbers
 pub mod Steps
+pub mod Shapes

@@ -20,13 +20,15 @@ abbrev pub sized_app : Text → App
 sized_app name = with_rule (with_rule (with_rule (new_app name) (needed_rule (codes "number")))
     (needed_rule (codes "members"))) (needed_rule (codes "pairings"))
 
-abbrev pub commands : App
-commands =
-    with_subcommand (with_subcommand (with_subcommand (with_subcommand (with_subcommand (new_app (codes "pbs"))
+-- the commands for a month that is there, and all of them
+abbrev pub month_commands : App
+month_commands = with_subcommand (with_subcommand (with_subcommand (new_app (codes "pbs"))
     (new_app (codes "check")).top)
     (with_rule (new_app (codes "award")) nodes_rule).top)
-    (with_rule (new_app (codes "show")) (needed_rule (codes "member"))).top)
-    (sized_app (codes "make")).top)
+    (with_rule (new_app (codes "show")) (needed_rule (codes "member"))).top
+
+abbrev pub commands : App
+commands = with_subcommand (with_subcommand month_commands (sized_app (codes "make")).top)
     (with_rule (sized_app (codes "trial")) nodes_rule).top
 
 -- ---- the test of words against what was read
