@@ -1,5 +1,5 @@
 -- Where there is no memory for the words, their command comes to the end that says so, with nothing done.
-use Rattle.std.proofs.Common.{Option, Some, None, Err, refl}
+use Rattle.std.proofs.Common.{◌≡◌, Option, Some, None, Err, refl, subst}
 use Rattle.command_words.specs.declared.command.Command.{Command}
 use Rattle.command_words.specs.declared.command.Command.TheVariants as command
 use Rattle.month_commands.specs.declared.award_stop.AwardStop.TheVariants as award_stop
@@ -26,3 +26,7 @@ wanted (Some (command.Award nodes)) at = record { asked = refl; handed = tt; rig
 wanted (Some (command.Show name)) at = record { asked = refl; handed = tt; right = λ files told. tt; left = refl; cause = refl }
 wanted (Some (command.Make sizes)) at = record { asked = refl; handed = (refl, tt); right = λ files told. tt; left = refl; cause = refl }
 wanted (Some (command.Trial sizes nodes)) at = record { asked = refl; handed = (refl, tt); right = λ files told. tt; left = refl; cause = refl }
+
+-- what comes of a command is what comes of the words that it was read from
+pub as_asked : (a b : Option Command) (old new : Shelved) (o : Outcome) → a ≡ b → ComesTo a old new o → ComesTo b old new o
+as_asked a b old new o same comes = subst (λ (c : Option Command). ComesTo c old new o) same comes
