@@ -32,12 +32,12 @@ use Rattle.roster_model.specs.declared.problem.Problem.{Problem}
 use Rattle.roster_text.proofs.ReasonSizes.{bid_short}
 use Rattle.roster_text.proofs.Sizes.{short, number_short}
 use Rattle.rules_file.specs.Rules.{Values, values}
-use Rattle.rules_file.specs.Spelling.{rules_text}
+use Rattle.rules_file.specs.Spelling.{rules_text, text_line, number_line}
 
 -- ---- a line of fields
 
 -- the fields behind the first, each with a comma, and the line feed
-width : List (List ℕ) → ℕ
+abbrev width : List (List ℕ) → ℕ
 width [] = 1
 width (f ∷ fs) = 1 + length f + width fs
 
@@ -64,7 +64,7 @@ layover_width (Some s) h = omega (arith, station_width s (h s refl))
 
 lines_append : (xs ys : List (List (List ℕ))) → length (lines (xs ++ ys)) ≡ length (lines xs) + length (lines ys)
 unfolding lines
-lines_append [] ys = refl
+lines_append [] ys = let none : length (lines []) ≡ 0 = refl in omega (arith, none)
 lines_append (x ∷ xs) ys = omega (arith, length-append (line x) (lines (xs ++ ys)), length-append (line x) (lines xs), lines_append xs ys)
 
 -- ---- pairings, duties and legs
@@ -306,12 +306,45 @@ module _ (problem : Problem) where
 abbrev june : Values
 june = record { base = home; seat = codes "FO"; year = pos 2026; month = 6; offset = pos 0; days_off = 10 }
 
-june_length : length (rules_text june) ≡ 72
-unfolding rules_text home
-june_length = refl
+text_width : (key text : List ℕ) → length (text_line key text) ≡ length key + length text + 6
+text_width key text =
+    omega (arith, length-append key (codes " = \"" ++ (text ++ codes "\"\n")), length-append (codes " = \"") (text ++ codes "\"\n"), length-append text (codes "\"\n"))
+
+number_width : (key : List ℕ) (n : ℕ) → n < 10 ^ 10 → length (number_line key (pos n)) ≤ length key + 14
+number_width key n few =
+    omega (
+      arith,
+      length-append key (codes " = " ++ (decimal n ++ codes "\n")),
+      length-append (codes " = ") (decimal n ++ codes "\n"),
+      length-append (decimal n) (codes "\n"),
+      number_short n few,
+    )
+
+six : (a b c d e f : List ℕ) → length (a ++ (b ++ (c ++ (d ++ (e ++ f))))) ≡ length a + length b + length c + length d + length e + length f
+six a b c d e f =
+    omega (
+      arith,
+      length-append a (b ++ (c ++ (d ++ (e ++ f)))),
+      length-append b (c ++ (d ++ (e ++ f))),
+      length-append c (d ++ (e ++ f)),
+      length-append d (e ++ f),
+      length-append e f,
+    )
 
 june_short : length (rules_text june) ≤ 67108864
-june_short = omega (arith, june_length)
+unfolding rules_text home
+june_short =
+    omega (
+      arith,
+      six (text_line (codes "base") home) (text_line (codes "seat") (codes "FO")) (number_line (codes "year") (pos 2026)) (number_line (codes "month") (pos 6))
+      (number_line (codes "offset") (pos 0)) (number_line (codes "days_off") (pos 10)),
+      text_width (codes "base") home,
+      text_width (codes "seat") (codes "FO"),
+      number_width (codes "year") 2026 (omega arith),
+      number_width (codes "month") 6 (omega arith),
+      number_width (codes "offset") 0 (omega arith),
+      number_width (codes "days_off") 10 (omega arith),
+    )
 
 -- ---- the made month
 
