@@ -1,6 +1,5 @@
 -- How a run of `check` ends and what it prints.
-use Rattle.std.specs.Prelude.{ℕ, ◌+◌, ◌≡◌, ℤ, List, [], ◌∷◌, ◌++◌, codes, Result, Ok, Err}
-use Rattle.shelf.specs.declared.tally.Tally.{Tally}
+use Rattle.std.specs.Prelude.{ℕ, ◌+◌, ℤ, List, [], ◌∷◌, ◌++◌, codes, Result, Ok, Err}
 use Rattle.line_legality.specs.declared.illegal.Illegal.{Illegal}
 use Rattle.line_legality.specs.declared.illegal.Illegal.TheVariants as illegal
 use Rattle.line_lens.specs.declared.lens_fault.LensFault.{LensFault}
@@ -11,16 +10,15 @@ use Rattle.cert_checker.specs.declared.refusal.ItemFault.{ItemFault}
 use Rattle.cert_checker.specs.declared.refusal.ItemFault.TheVariants as item
 use Rattle.cert_checker.specs.declared.refusal.No.{No}
 use Rattle.cert_checker.specs.declared.refusal.No.TheVariants as no
-use Rattle.month_files.specs.Reading.{UnreadCause}
 use Rattle.roster_text.specs.Codes.{roster_code, reason_code}
-use Rattle.pbs_engine.specs.declared.check_stop.CheckStop.{CheckStop}
-use Rattle.pbs_engine.specs.declared.check_stop.CheckStop.TheVariants as stop
-use Rattle.pbs_engine.specs.declared.check_stop.Refusal.{Refusal}
-use Rattle.pbs_engine.specs.declared.check_stop.Refusal.TheVariants as refusal
+use Rattle.month_commands.specs.declared.check_stop.CheckStop.{CheckStop}
+use Rattle.month_commands.specs.declared.check_stop.CheckStop.TheVariants as stop
+use Rattle.month_commands.specs.declared.check_stop.Refusal.{Refusal}
+use Rattle.month_commands.specs.declared.check_stop.Refusal.TheVariants as refusal
 use Rattle.pbs_engine.specs.declared.status.Status.{Status}
 use Rattle.pbs_engine.specs.declared.status.Status.TheVariants as status
-use Rattle.pbs_engine.specs.declared.verdict.Verdict.{Verdict}
-use Rattle.pbs_engine.specs.declared.verdict.Verdict.TheVariants as verdict
+use Rattle.month_commands.specs.declared.verdict.Verdict.{Verdict}
+use Rattle.month_commands.specs.declared.verdict.Verdict.TheVariants as verdict
 use Rattle.pbs_engine.specs.Lines.{line, line_of, numbers}
 use Rattle.pbs_engine.specs.MonthEnds.{unread_status, unread_text, input_status, bad_input_text}
 
@@ -30,14 +28,6 @@ check_status (Err (stop.Unread why)) = unread_status why
 check_status (Err (stop.BadInput why)) = input_status why
 check_status (Err (stop.No why)) = status.No
 check_status (Err stop.NoMemory) = status.NoMemory
-
--- which change of the shelf's counts an end comes with
-abbrev pub CheckCause : Tally → Tally → Result Verdict CheckStop → Type 0
-CheckCause old new (Ok shown) = new ≡ old
-CheckCause old new (Err (stop.Unread why)) = UnreadCause old new why
-CheckCause old new (Err (stop.BadInput why)) = new ≡ old
-CheckCause old new (Err (stop.No why)) = new ≡ old
-CheckCause old new (Err stop.NoMemory) = new ≡ old
 
 -- a fault as numbers: its code, then its arguments. Members, pairings, bids, searches, items and windows count from 1.
 abbrev pub illegal_numbers : Illegal → List ℕ

@@ -3,16 +3,15 @@ ghost use Rattle.std.specs.Prelude.{◌≡◌, ◌+◌, [], ◌∷◌, ◌++◌,
 ghost use Rattle.pbs_engine.specs.CheckTexts.{check_status, check_text, yes_text, illegal_numbers, lens_numbers, sum_text, item_text, no_text, refusal_text};
 ghost use Rattle.pbs_engine.specs.Lines.{line, line_of, numbers};
 
-use crate::check_stop::{CheckStop, Refusal};
 use crate::lines::{line_text, numbered, put_count, put_numbers, put_vector};
 use crate::month_ends::{bad_input_text, input_status, unread_status, unread_text};
 use crate::status::Status;
-use crate::verdict::Verdict;
 use cert_checker::{ItemFault, No};
 use duty_calendar::{List, Memory};
 use field_text::put_bytes;
 use line_legality::Illegal;
 use line_lens::LensFault;
+use month_commands::{CheckStop, Refusal, Verdict};
 use std::alloc::Global;
 
 /// How a run of `check` ends.

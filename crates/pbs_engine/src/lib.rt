@@ -1,22 +1,19 @@
 //! What the program does: words and files in, one answer and its text out.
 #![tactic(auto)]
 
-mod award;
-mod award_stop;
 mod award_text;
-mod check;
-mod check_stop;
 mod check_text;
-mod command;
 mod lines;
+mod make_text;
 mod month_ends;
 mod outcome;
 mod runner;
+mod show_text;
 mod status;
 #[cfg(test)]
 mod tests;
-mod verdict;
-mod writing;
+mod trial_text;
+mod write_ends;
 
 pub use runner::run;
 pub use status::Status;

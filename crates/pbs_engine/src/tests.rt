@@ -4,6 +4,7 @@ mod awards;
 mod certificates;
 mod faults;
 mod legality;
+mod made;
 mod months;
 
 use crate::{Status, run};

@@ -138,7 +138,7 @@ module _ (problem : Problem) where
   wish_short (CreditAbove m) h = omega (arith, minutes_short m (omega (arith, leb-true m 59999 h)))
   wish_short (DaysOff n) h = omega (arith, number_short n (omega (arith, leb-true n 31 h)))
 
-  bid_short : (b : Bid) → IsBid problem.base.rules.horizon (length problem.base.pairings) b → length (bid_text problem.base b) ≤ 431
+  pub bid_short : (b : Bid) → IsBid problem.base.rules.horizon (length problem.base.pairings) b → length (bid_text problem.base b) ≤ 431
   unfolding bid_text
   bid_short b form =
       omega (

@@ -19,7 +19,7 @@ use Rattle.roster_text.specs.RosterText.{pairing_name, member_name, names_text, 
 use Rattle.roster_text.proofs.FieldLaws.{sums_is}
 use Rattle.roster_text.proofs.NameLaws.{All_weaker}
 
-short : (name : List ℕ) → is_name name ≡ true → length name ≤ 16
+pub short : (name : List ℕ) → is_name name ≡ true → length name ≤ 16
 short name h =
     let t = and_parts _ (list_all is_name_byte name) h in
     let s = and_parts (nat_le 1 (length name)) (nat_le (length name) 16) t.0 in

@@ -374,15 +374,7 @@ pub const GRANTS: [Wish; 7] = [
 ];
 
 /// Words that are no command.
-pub const NO_COMMANDS: [&[&str]; 7] = [
-    &[],
-    &["check", "check"],
-    &["award", "--nodes", "0"],
-    &["award", "--nodes", "20001"],
-    &["show"],
-    &["judge"],
-    &["Check"],
-];
+pub const NO_COMMANDS: [&[&str]; 3] = [&[], &["help"], &["make", "7", "0", "24"]];
 
 /// The line that is then printed.
 pub const USAGE: &str =

@@ -1,0 +1,7 @@
+pub mod Forms
+pub mod Laws
+pub mod Tests
+pub mod Whole
+pub mod Numbers
+pub mod Steps
+pub mod Shapes

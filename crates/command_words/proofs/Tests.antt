@@ -1,0 +1,207 @@
+-- The test of words against what was read, and what was read against the words.
+use Rattle.std.proofs.Common.{◌≡◌, ◌∙◌, ◌++◌, ℕ, Bool, true, false, cond, List, [], ◌∷◌, take, drop, Option, Some, None, refl, sym, ap, subst, codes, inl, inr, ◌&&◌, ◌||◌}
+use Rattle.std.specs.Prelude.{if◌then◌else◌, option_and_then, option_map}
+use Rattle.std.proofs.lemmas.Bool.{and_parts, or_cases}
+use Rattle.std.proofs.lemmas.List.{take-append-drop}
+use Rattle.std.proofs.lemmas.Option.{option_and_then_some}
+use Rattle.std.proofs.lemmas.Slice.Eq.{bytes_eq-Decides}
+use Rattle.std.specs.Str.{bytes_eq}
+use Rattle.clap.specs.Walk.{Text}
+use Rattle.command_words.specs.Numbers.{nodes_in, sizes_in}
+use Rattle.command_words.specs.Words.{is_argument, check_in}
+use Rattle.command_words.specs.Spelling.{Stands, Spells}
+use Rattle.command_words.specs.Spelling.Stands.{alone, two_words, one_word}
+use Rattle.command_words.specs.Spelling.Spells.{check, award, show, make, trial}
+use Rattle.command_words.specs.Reading.{Texts, joins, same_words, begins_apart, begins, heads, has_option, stands, award_read, name_read, sizes_read, make_read, trial_read, named_read}
+use Rattle.command_words.proofs.Laws.{by_word, check_spelt, mapped, moved}
+use Rattle.command_words.specs.declared.command.Sizes.{Sizes}
+use Rattle.command_words.specs.declared.command.Command.{Command}
+use Rattle.command_words.specs.declared.command.Command.TheVariants.{Check, Award, Show, Make, Trial}
+
+-- ---- words that pass the test stand so
+
+pub same_eq : (words arguments : List Text) → same_words words arguments ≡ true → words ≡ arguments
+same_eq [] [] h = refl
+same_eq [] (a ∷ rest) h = absurd cc
+same_eq (w ∷ ws) [] h = absurd cc
+same_eq (w ∷ ws) (a ∷ rest) h =
+    let p = and_parts (bytes_eq w a) (same_words ws rest) h in
+    ap (λ (x : Text). x ∷ ws) ((bytes_eq-Decides w a).0 p.0) ∙ ap (λ (l : List Text). a ∷ l) (same_eq ws rest p.1)
+
+joins_is : (word n : Text) → joins word n ≡ true → word ≡ codes "--nodes=" ++ n
+joins_is word n h =
+    let p = and_parts (bytes_eq (take 8 word) (codes "--nodes=")) (bytes_eq (drop 8 word) n) h in
+    sym (take-append-drop 8 word) ∙ ap (λ (x : Text). x ++ drop 8 word) ((bytes_eq-Decides (take 8 word) (codes "--nodes=")).0 p.0)
+    ∙ ap (λ (x : Text). codes "--nodes=" ++ x) ((bytes_eq-Decides (drop 8 word) n).0 p.1)
+
+apart_true : (word : Text) (after : List Text) (n : Text) (arguments : List Text) → word ≡ codes "--nodes" → begins_apart after n arguments ≡ true
+    → Stands arguments (Some n) (word ∷ after)
+apart_true word [] n arguments e h = absurd cc
+apart_true word (m ∷ after) n arguments e h =
+    let p = and_parts (bytes_eq m n) (same_words after arguments) h in
+    two_words [] arguments n refl refl (ap (λ (x : Text). x ∷ m ∷ after) e ∙ ap (λ (x : Text). codes "--nodes" ∷ x ∷ after) ((bytes_eq-Decides m n).0 p.0)
+    ∙ ap (λ (l : List Text). codes "--nodes" ∷ n ∷ l) (same_eq after arguments p.1))
+
+begins_true : (words : List Text) (n : Text) (arguments : List Text) → begins words n arguments ≡ true → Stands arguments (Some n) words
+begins_true [] n arguments h = absurd cc
+begins_true (word ∷ after) n arguments h = by (joins word n) refl h
+  where
+    by : (t : Bool) → joins word n ≡ t → cond t (same_words after arguments) (bytes_eq word (codes "--nodes") && begins_apart after n arguments) ≡ true
+        → Stands arguments (Some n) (word ∷ after)
+    by true e h = one_word [] arguments n refl refl (ap (λ (x : Text). x ∷ after) (joins_is word n e)
+        ∙ ap (λ (l : List Text). (codes "--nodes=" ++ n) ∷ l) (same_eq after arguments h))
+    by false e h =
+        let p = and_parts (bytes_eq word (codes "--nodes")) (begins_apart after n arguments) h in
+        apart_true word after n arguments ((bytes_eq-Decides word (codes "--nodes")).0 p.0) p.1
+
+head_moved : (a : Text) (rest : List Text) (words : List Text) (n : Text) → heads a words ≡ true → Stands rest (Some n) (drop 1 words) → Stands (a ∷ rest) (Some n) words
+head_moved a rest [] n h s = absurd cc
+head_moved a rest (w ∷ ws) n h s = subst (λ (x : Text). Stands (x ∷ rest) (Some n) (w ∷ ws)) ((bytes_eq-Decides w a).0 h) (moved w rest (Some n) ws s)
+
+option_true : (arguments : List Text) (words : List Text) (n : Text) → has_option words n arguments ≡ true → Stands arguments (Some n) words
+option_true [] words n h = begins_true words n [] h
+option_true (a ∷ rest) words n h = elim (or_cases (begins words n (a ∷ rest)) (heads a words && has_option (drop 1 words) n rest) h) [
+  | inl here ↦ begins_true words n (a ∷ rest) here
+  | inr later ↦
+      let p = and_parts (heads a words) (has_option (drop 1 words) n rest) later in
+      head_moved a rest words n p.0 (option_true rest (drop 1 words) n p.1)
+]
+
+pub stands_true : (words arguments : List Text) (option : Option Text) → stands words arguments option ≡ true → Stands arguments option words
+stands_true words arguments None h = alone refl (same_eq words arguments h)
+stands_true words arguments (Some n) h = option_true arguments words n h
+
+-- ---- words that stand so pass the test
+
+pub bytes_same : (w : Text) → bytes_eq w w ≡ true
+bytes_same w = (bytes_eq-Decides w w).1 refl
+
+pub both_true : (a b : Bool) → a ≡ true → b ≡ true → (a && b) ≡ true
+both_true a b h k = rw (h, k) refl
+
+second_true : (a b : Bool) → b ≡ true → (a || b) ≡ true
+second_true true b h = refl
+second_true false b h = h
+
+first_true : (a b : Bool) → a ≡ true → (a || b) ≡ true
+first_true a b h = rw h refl
+
+pub same_refl : (words : List Text) → same_words words words ≡ true
+same_refl [] = refl
+same_refl (w ∷ ws) = both_true (bytes_eq w w) (same_words ws ws) (bytes_same w) (same_refl ws)
+
+two_begins : (after : List Text) (n : Text) → begins (codes "--nodes" ∷ n ∷ after) n after ≡ true
+two_begins after n = both_true (bytes_eq n n) (same_words after after) (bytes_same n) (same_refl after)
+
+one_begins : (after : List Text) (n : Text) → begins ((codes "--nodes=" ++ n) ∷ after) n after ≡ true
+one_begins after n = rw (bytes_same n) (same_refl after)
+
+begins_option : (words : List Text) (n : Text) (arguments : List Text) → begins words n arguments ≡ true → has_option words n arguments ≡ true
+begins_option words n [] h = h
+begins_option words n (a ∷ rest) h = first_true (begins words n (a ∷ rest)) (heads a words && has_option (drop 1 words) n rest) h
+
+two_true : (before after : List Text) (n : Text) → has_option (before ++ (codes "--nodes" ∷ n ∷ after)) n (before ++ after) ≡ true
+two_true [] after n = begins_option (codes "--nodes" ∷ n ∷ after) n after (two_begins after n)
+two_true (w ∷ ws) after n =
+    second_true (begins (w ∷ (ws ++ (codes "--nodes" ∷ n ∷ after))) n (w ∷ (ws ++ after))) (bytes_eq w w && has_option (ws ++ (codes "--nodes" ∷ n ∷ after)) n (ws ++ after))
+    (both_true (bytes_eq w w) (has_option (ws ++ (codes "--nodes" ∷ n ∷ after)) n (ws ++ after)) (bytes_same w) (two_true ws after n))
+
+one_true : (before after : List Text) (n : Text) → has_option (before ++ ((codes "--nodes=" ++ n) ∷ after)) n (before ++ after) ≡ true
+one_true [] after n = begins_option ((codes "--nodes=" ++ n) ∷ after) n after (one_begins after n)
+one_true (w ∷ ws) after n =
+    second_true (begins (w ∷ (ws ++ ((codes "--nodes=" ++ n) ∷ after))) n (w ∷ (ws ++ after))) (bytes_eq w w && has_option (ws ++ ((codes "--nodes=" ++ n) ∷ after)) n (ws ++ after))
+    (both_true (bytes_eq w w) (has_option (ws ++ ((codes "--nodes=" ++ n) ∷ after)) n (ws ++ after)) (bytes_same w) (one_true ws after n))
+
+pub stands_is : (arguments : List Text) (option : Option Text) (words : List Text) → Stands arguments option words → stands words arguments option ≡ true
+stands_is arguments option words (alone none same) =
+    ap (λ (o : Option Text). stands words arguments o) none ∙ ap (λ (w : List Text). same_words w arguments) same ∙ same_refl arguments
+stands_is arguments option words (two_words before after n all some same) =
+    ap (λ (o : Option Text). stands words arguments o) some ∙ ap (λ (w : List Text). has_option w n arguments) same
+    ∙ ap (λ (a : List Text). has_option (before ++ (codes "--nodes" ∷ n ∷ after)) n a) all ∙ two_true before after n
+stands_is arguments option words (one_word before after n all some same) =
+    ap (λ (o : Option Text). stands words arguments o) some ∙ ap (λ (w : List Text). has_option w n arguments) same
+    ∙ ap (λ (a : List Text). has_option (before ++ ((codes "--nodes=" ++ n) ∷ after)) n a) all ∙ one_true before after n
+
+-- ---- what the texts give is spelt by the words
+
+award_given : (words : List Text) (option : Option Text) (command : Command) → award_read words option ≡ Some command → Spells (codes "award" ∷ words) command
+award_given words option command h = by (stands words [] option) refl h
+  where
+    by : (t : Bool) → stands words [] option ≡ t → cond t (option_map (λ (n : ℕ). Award n) (nodes_in option)) None ≡ Some command → Spells (codes "award" ∷ words) command
+    by true e h =
+        let m = mapped (λ (n : ℕ). Award n) (nodes_in option) command h in
+        subst (Spells (codes "award" ∷ words)) m.2 (award words option m.0 (stands_true words [] option e) m.1)
+    by false e h = absurd cc
+
+some_text : (a b : Text) → Some a ≡ Some b → a ≡ b
+some_text a b h = cc
+
+name_given : (words : List Text) (text name : Text) → (if is_argument text && same_words words (text ∷ []) then Some text else None) ≡ Some name
+    → Spells (codes "show" ∷ words) (Show name)
+name_given words text name h = by (is_argument text && same_words words (text ∷ [])) refl h
+  where
+    by : (t : Bool) → (is_argument text && same_words words (text ∷ [])) ≡ t → cond t (Some text) None ≡ Some name → Spells (codes "show" ∷ words) (Show name)
+    by true e h =
+        let p = and_parts (is_argument text) (same_words words (text ∷ [])) e in
+        subst (λ (n : Text). Spells (codes "show" ∷ words) (Show n)) (some_text text name h)
+        (subst (λ (w : List Text). Spells (codes "show" ∷ w) (Show text)) (sym (same_eq words (text ∷ []) p.1)) (show text p.0))
+    by false e h = absurd cc
+
+show_given : (words : List Text) (member : Option Text) (command : Command) → option_map (λ (n : Text). Show n) (name_read words member) ≡ Some command
+    → Spells (codes "show" ∷ words) command
+show_given words member command h =
+    let m = mapped (λ (n : Text). Show n) (name_read words member) command h in
+    subst (Spells (codes "show" ∷ words)) m.2
+    (option_and_then_some (λ (text : Text). if is_argument text && same_words words (text ∷ []) then Some text else None) member m.0 m.1
+    (λ text e k. name_given words text m.0 k))
+
+record SizesGiven (words : List Text) (option : Option Text) (sizes : Sizes) : Type 0 where
+  a : Text
+  b : Text
+  c : Text
+  standing : Stands (a ∷ b ∷ c ∷ []) option words
+  written : sizes_in a b c ≡ Some sizes
+
+sizes_tested : (words : List Text) (option : Option Text) (a b c : Text) (sizes : Sizes)
+    → (if stands words (a ∷ b ∷ c ∷ []) option then sizes_in a b c else None) ≡ Some sizes → SizesGiven words option sizes
+sizes_tested words option a b c sizes h = by (stands words (a ∷ b ∷ c ∷ []) option) refl h
+  where
+    by : (t : Bool) → stands words (a ∷ b ∷ c ∷ []) option ≡ t → cond t (sizes_in a b c) None ≡ Some sizes → SizesGiven words option sizes
+    by true e h = record { a = a; b = b; c = c; standing = stands_true words (a ∷ b ∷ c ∷ []) option e; written = h }
+    by false e h = absurd cc
+
+sizes_given : (words : List Text) (option number members pairings : Option Text) (sizes : Sizes) → sizes_read words option number members pairings ≡ Some sizes
+    → SizesGiven words option sizes
+sizes_given words option None members pairings sizes h = absurd cc
+sizes_given words option (Some a) None pairings sizes h = absurd cc
+sizes_given words option (Some a) (Some b) None sizes h = absurd cc
+sizes_given words option (Some a) (Some b) (Some c) sizes h = sizes_tested words option a b c sizes h
+
+no_option : (arguments : List Text) (option : Option Text) (words : List Text) → Stands arguments option words → option ≡ None → words ≡ arguments
+no_option arguments option words (alone none same) e = same
+no_option arguments option words (two_words before after n all some same) e = absurd cc
+no_option arguments option words (one_word before after n all some same) e = absurd cc
+
+make_given : (words : List Text) (number members pairings : Option Text) (command : Command) → make_read words number members pairings ≡ Some command
+    → Spells (codes "make" ∷ words) command
+make_given words number members pairings command h =
+    let m = mapped (λ (s : Sizes). Make s) (sizes_read words None number members pairings) command h in
+    let g = sizes_given words None number members pairings m.0 m.1 in
+    subst (Spells (codes "make" ∷ words)) m.2
+    (subst (λ (w : List Text). Spells (codes "make" ∷ w) (Make m.0)) (sym (no_option (g.a ∷ g.b ∷ g.c ∷ []) None words g.standing refl)) (make g.a g.b g.c m.0 g.written))
+
+trial_given : (words : List Text) (option number members pairings : Option Text) (command : Command) → trial_read words option number members pairings ≡ Some command
+    → Spells (codes "trial" ∷ words) command
+trial_given words option number members pairings command h =
+    option_and_then_some (λ (sizes : Sizes). option_map (λ (n : ℕ). Trial sizes n) (nodes_in option)) (sizes_read words option number members pairings) command h
+    (λ sizes e k.
+    let m = mapped (λ (n : ℕ). Trial sizes n) (nodes_in option) command k in
+    let g = sizes_given words option number members pairings sizes e in
+    subst (Spells (codes "trial" ∷ words)) m.2 (trial words g.a g.b g.c option sizes m.0 g.standing g.written m.1))
+
+pub given_spelt : (word : Text) (rest : List Text) (t : Texts) (command : Command) → named_read word rest t ≡ Some command → Spells (word ∷ rest) command
+given_spelt word rest t command h =
+    by_word word rest command (check_in rest) (award_read rest t.nodes) (option_map (λ (n : Text). Show n) (name_read rest t.member))
+    (make_read rest t.number t.members t.pairings) (trial_read rest t.nodes t.number t.members t.pairings)
+    (check_spelt rest command) (award_given rest t.nodes command) (show_given rest t.member command)
+    (make_given rest t.number t.members t.pairings command) (trial_given rest t.nodes t.number t.members t.pairings command) h

@@ -1,0 +1,5 @@
+pub mod Numbers
+pub mod Words
+pub mod Spelling
+pub mod Reading
+pub mod Found

@@ -1,0 +1,116 @@
+-- What the parts of the reader answer, step by step. No public contract cites this.
+use Rattle.std.specs.Prelude.{◌≡◌, ◌++◌, ℕ, Bool, true, false, not, ◌==◌, ◌&&◌, ◌||◌, List, [], ◌∷◌, take, drop, map, codes, Option, Some, None, if◌then◌else◌, option_and_then, option_map}
+use Rattle.std.specs.Str.{bytes_eq}
+use Rattle.clap.specs.Words.{App, Row, Rule, Text, first_of, new_app, new_rule, with_rule, with_subcommand, takes, subcommand_of}
+use Rattle.command_words.specs.Numbers.{nodes_in, sizes_in}
+use Rattle.command_words.specs.Words.{is_argument, check_in}
+use Rattle.command_words.specs.declared.command.Sizes.{Sizes}
+use Rattle.command_words.specs.declared.command.Command.{Command}
+use Rattle.command_words.specs.declared.command.Command.TheVariants.{Check, Award, Show, Make, Trial}
+
+-- ---- what clap is told
+
+abbrev pub nodes_rule : Rule
+nodes_rule = record (new_rule (codes "nodes")) { long = Some (codes "nodes") }
+
+abbrev pub needed_rule : Text → Rule
+needed_rule id = record (new_rule id) { required = true }
+
+abbrev pub sized_app : Text → App
+sized_app name = with_rule (with_rule (with_rule (new_app name) (needed_rule (codes "number")))
+    (needed_rule (codes "members"))) (needed_rule (codes "pairings"))
+
+-- the commands for a month that is there, and all of them
+abbrev pub month_commands : App
+month_commands = with_subcommand (with_subcommand (with_subcommand (new_app (codes "pbs"))
+    (new_app (codes "check")).top)
+    (with_rule (new_app (codes "award")) nodes_rule).top)
+    (with_rule (new_app (codes "show")) (needed_rule (codes "member"))).top
+
+abbrev pub commands : App
+commands = with_subcommand (with_subcommand month_commands (sized_app (codes "make")).top)
+    (with_rule (sized_app (codes "trial")) nodes_rule).top
+
+-- ---- the test of words against what was read
+
+abbrev pub same_words : List Text → List Text → Bool
+same_words [] [] = true
+same_words [] (a ∷ as') = false
+same_words (w ∷ ws) [] = false
+same_words (w ∷ ws) (a ∷ as') = bytes_eq w a && same_words ws as'
+
+abbrev pub joins : Text → Text → Bool
+joins word nodes = bytes_eq (take 8 word) (codes "--nodes=") && bytes_eq (drop 8 word) nodes
+
+abbrev pub begins_apart : List Text → Text → List Text → Bool
+begins_apart [] nodes arguments = false
+begins_apart (n ∷ after) nodes arguments = bytes_eq n nodes && same_words after arguments
+
+abbrev pub begins : List Text → Text → List Text → Bool
+begins [] nodes arguments = false
+begins (option ∷ after) nodes arguments =
+    if joins option nodes then same_words after arguments
+    else (bytes_eq option (codes "--nodes") && begins_apart after nodes arguments)
+
+abbrev pub heads : Text → List Text → Bool
+heads a [] = false
+heads a (w ∷ ws) = bytes_eq w a
+
+abbrev pub has_option : List Text → Text → List Text → Bool
+has_option words nodes [] = begins words nodes []
+has_option words nodes (a ∷ as') =
+    begins words nodes (a ∷ as') || (heads a words && has_option (drop 1 words) nodes as')
+
+abbrev pub stands : List Text → List Text → Option Text → Bool
+stands words arguments None = same_words words arguments
+stands words arguments (Some nodes) = has_option words nodes arguments
+
+-- ---- the commands by the texts that clap found
+
+abbrev pub award_read : List Text → Option Text → Option Command
+award_read words option = if stands words [] option then option_map (λ n. Award n) (nodes_in option) else None
+
+abbrev pub name_read : List Text → Option Text → Option Text
+name_read words member = option_and_then (λ name.
+    if is_argument name && stands words (name ∷ []) None then Some name else None) member
+
+abbrev pub sizes_read : List Text → Option Text → Option Text → Option Text → Option Text → Option Sizes
+sizes_read words option number members pairings = option_and_then (λ a. option_and_then (λ b. option_and_then (λ c.
+    if stands words (a ∷ b ∷ c ∷ []) option then sizes_in a b c else None) pairings) members) number
+
+abbrev pub make_read : List Text → Option Text → Option Text → Option Text → Option Command
+make_read words number members pairings = option_map (λ sizes. Make sizes) (sizes_read words None number members pairings)
+
+abbrev pub trial_read : List Text → Option Text → Option Text → Option Text → Option Text → Option Command
+trial_read words option number members pairings = option_and_then (λ sizes. option_map (λ n. Trial sizes n)
+    (nodes_in option)) (sizes_read words option number members pairings)
+
+-- what clap found of each argument
+pub record Texts : Type 0 where
+  pub nodes : Option Text
+  pub member : Option Text
+  pub number : Option Text
+  pub members : Option Text
+  pub pairings : Option Text
+
+abbrev pub texts_in : List Row → Texts
+texts_in rows = record {
+  nodes = first_of (codes "nodes") rows;
+  member = first_of (codes "member") rows;
+  number = first_of (codes "number") rows;
+  members = first_of (codes "members") rows;
+  pairings = first_of (codes "pairings") rows;
+}
+
+abbrev pub named_read : Text → List Text → Texts → Option Command
+named_read word rest t =
+    if bytes_eq word (codes "check") then check_in rest
+    else (if bytes_eq word (codes "award") then award_read rest t.nodes
+    else (if bytes_eq word (codes "show") then option_map (λ n. Show n) (name_read rest t.member)
+    else (if bytes_eq word (codes "make") then make_read rest t.number t.members t.pairings
+    else (if bytes_eq word (codes "trial") then trial_read rest t.nodes t.number t.members t.pairings
+    else None))))
+
+-- the texts that clap reads of the words behind the program's name, where it goes to a command
+abbrev pub texts_of : List Text → Option Texts
+texts_of words = option_map (λ p. texts_in p.1) (subcommand_of commands (codes "pbs" ∷ words))

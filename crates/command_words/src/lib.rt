@@ -1,0 +1,12 @@
+//! The words of the command line, read with `clap`.
+#![tactic(auto)]
+
+mod command;
+mod grammar;
+mod number;
+mod spelling;
+#[cfg(test)]
+mod tests;
+
+pub use command::{Command, Sizes};
+pub use number::read_long;

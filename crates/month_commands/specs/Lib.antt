@@ -1,0 +1,10 @@
+pub mod CheckEnds
+pub mod Check
+pub mod Handed
+pub mod AwardEnds
+pub mod Award
+pub mod ShowEnds
+pub mod Show
+pub mod MakeEnds
+pub mod Make
+pub mod Trial

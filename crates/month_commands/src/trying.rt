@@ -1,0 +1,133 @@
+//! The command `trial`.
+ghost use Rattle.std.specs.Prelude.{◌≡◌, ◌≤◌, [], true, IfOk, OnOk};
+ghost use Rattle.cert_text.specs.Limits.{is_certificate};
+ghost use Rattle.month_award.specs.declared.outcome.MonthAward.TheVariants.{Award as MonthIsAwarded};
+ghost use Rattle.month_award.specs.Months.{IsAwardedMonth, IsUnfillableMonth, GivesGreatestScores};
+ghost use Rattle.roster_model.specs.Awards.{no_goal};
+ghost use Rattle.roster_model.specs.Closing.{Closes};
+ghost use Rattle.roster_model.specs.Denials.{IsAwarded};
+ghost use Rattle.roster_model.specs.declared.award.Certificate.TheVariants.{Award as AwardForm, NoRoster as NoneForm};
+ghost use Rattle.month_commands.specs.Trial.{Tries, IsTried, IsTrial};
+
+use crate::award_stop::{Found, Miss};
+use bid_score::scores_of;
+use cert_checker::{No, judge, judge_none};
+use duty_calendar::Memory;
+use month_award::{AwardedMonth, MonthAward, UnfillableMonth, award_month};
+use roster_model::{Awarded, Certificate, Problem, Proof, Reasons, Roster};
+use std::alloc::Global;
+
+/// What was found of a month.
+#[derive(Drop, Debug)]
+pub struct Tried {
+    pub found: Found,
+    /// How many nodes were counted.
+    pub nodes: u32,
+}
+
+/// Judges an award, which is accepted.
+fn judge_award(
+    alloc: Global,
+    problem: &Problem,
+    roster: &Roster,
+    reasons: &Reasons,
+    awarded: &Awarded,
+) -> Result<(), Memory>
+    requires accepted { IsAwarded problem.now roster.now reasons.now awarded.now }
+    requires limits { is_certificate (AwardForm awarded.now) ≡ true }
+{
+    match judge(alloc, problem, roster, reasons, awarded) {
+        Ok(()) => Ok(()),
+        Err(No::NoMemory) => Err(Memory::NoMemory),
+        Err(_) => unreachable!(),
+    }
+}
+
+/// Judges a proof that there is no complete roster, which is accepted.
+fn judge_proof(alloc: Global, problem: &Problem, proof: &Proof) -> Result<(), Memory>
+    requires closes { Closes problem.now no_goal [] proof.now }
+    requires limits { is_certificate (NoneForm proof.now) ≡ true }
+{
+    match judge_none(alloc, problem, proof) {
+        Ok(()) => Ok(()),
+        Err(No::NoMemory) => Err(Memory::NoMemory),
+        Err(_) => unreachable!(),
+    }
+}
+
+/// What is said of a month that is awarded. Its award is judged.
+fn awarded(
+    alloc: Global,
+    problem: &Problem,
+    nodes: u32,
+    month: &AwardedMonth,
+) -> Result<Tried, Memory>
+    requires month { IsAwardedMonth problem.now nodes month.now }
+    requires seniors { GivesGreatestScores problem.now (MonthIsAwarded month.now) }
+    ensures tried { IfOk result (λ t. Tries problem.now nodes t.found t.nodes) }
+{
+    let _ = nodes;
+    let Certificate::Award(awarded) = &month.certificate else {
+        unreachable!();
+    };
+    judge_award(alloc, problem, &month.roster, &month.reasons, awarded)?;
+    let scores = scores_of(alloc, problem, &month.roster)?;
+    Ok(Tried {
+        found: Found::Award(scores, month.reasons.len() as u32),
+        nodes: month.entries,
+    })
+}
+
+/// What is said of a month that no roster fills. The proof of that is judged.
+fn unfillable(
+    alloc: Global,
+    problem: &Problem,
+    nodes: u32,
+    month: &UnfillableMonth,
+) -> Result<Tried, Memory>
+    requires month { IsUnfillableMonth problem.now nodes month.now }
+    ensures tried { IfOk result (λ t. Tries problem.now nodes t.found t.nodes) }
+{
+    let _ = nodes;
+    let Certificate::NoRoster(proof) = &month.certificate else {
+        unreachable!();
+    };
+    judge_proof(alloc, problem, proof)?;
+    Ok(Tried {
+        found: Found::NoRoster,
+        nodes: month.entries,
+    })
+}
+
+/// What comes of the award of a month with so many nodes at most.
+fn try_month(alloc: Global, problem: &Problem, nodes: u32) -> Result<Tried, Miss>
+    requires some { 1 ≤ nodes }
+    requires few { nodes ≤ 20000 }
+    ensures tried { IsTried problem.now nodes result }
+{
+    match award_month(alloc, problem, nodes)? {
+        MonthAward::Award(month) => Ok(awarded(alloc, problem, nodes, &month)?),
+        MonthAward::NoRoster(month) => Ok(unfillable(alloc, problem, nodes, &month)?),
+        MonthAward::Budget => Err(Miss::Budget(nodes)),
+    }
+}
+
+/// Awards the month that is made of a number, for so many members and pairings, with so many nodes at most, and judges
+/// the award.
+pub fn trial(
+    alloc: Global,
+    number: u64,
+    members: u32,
+    pairings: u32,
+    nodes: u32,
+) -> Result<Tried, Miss>
+    requires some { 1 ≤ members }
+    requires few { members ≤ 200 }
+    requires short { pairings ≤ 600 }
+    requires some_nodes { 1 ≤ nodes }
+    requires few_nodes { nodes ≤ 20000 }
+    ensures trial { IsTrial number members pairings nodes result }
+{
+    let problem = instance_maker::make(alloc, number, members, pairings)?;
+    try_month(alloc, &problem, nodes)
+}
