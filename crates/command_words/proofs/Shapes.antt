@@ -1,5 +1,5 @@
 -- What clap was told, one argument and one command at a time.
-use Rattle.std.proofs.Common.{List, Option, Some, None, ◌≡◌, ◌∙◌, ◌&&◌, Bool, true, false, refl, ap, ap₂}
+use Rattle.std.proofs.Common.{List, Some, None, ◌≡◌, ◌∙◌, ◌&&◌, Bool, true, false, refl, ap, ap₂}
 use Rattle.std.specs.Prelude.{not, Result, Ok, Err, IfOk, IsOkAnd}
 use Rattle.clap.specs.declared.builder.arg.Arg.{Arg}
 use Rattle.clap.specs.declared.builder.command.Command.{Command as Grammar}

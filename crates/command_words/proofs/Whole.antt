@@ -1,12 +1,9 @@
 -- What clap reads gives the command exactly.
 use Rattle.std.proofs.Common.{◌≡◌, ◌∙◌, ◌++◌, ◌≤◌, ℕ, Bool, true, false, cond, List, [], ◌∷◌, Option, Some, None, Result, Ok, Err, refl, sym, ap, subst, codes, ◌&&◌, arith, map, take, drop, length}
-use Rattle.std.specs.Prelude.{◌↔◌, not, ◌==◌, nat_le, if◌then◌else◌, option_and_then, option_map, IfSome}
+use Rattle.std.specs.Prelude.{not, ◌==◌, nat_le, option_and_then, option_map, IfSome}
 use Rattle.std.proofs.lemmas.Bool.{and_parts}
 use Rattle.std.proofs.lemmas.Option.{option_and_then_some}
 use Rattle.std.proofs.lemmas.Bool.Decides.{nat_tests}
-use Rattle.std.proofs.lemmas.Slice.Eq.{bytes_eq-Decides}
-use Rattle.std.specs.Str.{bytes_eq}
-use Rattle.clap.specs.Lexer.{strip_byte}
 use Rattle.clap.specs.Walk.{Text}
 use Rattle.std.specs.Borrow.{Bor}
 use Rattle.std.proofs.Math.ListN.{drop_of_length-le}
@@ -22,15 +19,15 @@ use Rattle.command_words.specs.Words.{is_argument, command_in, HasLimits}
 use Rattle.command_words.specs.Spelling.{Stands, Spells, IsSpelt}
 use Rattle.command_words.specs.Spelling.Stands.{alone, two_words, one_word}
 use Rattle.command_words.specs.Spelling.Spells.{check, award, show, make, trial}
-use Rattle.command_words.specs.Reading.{Texts, commands, texts_of, texts_in, named_read, stands, same_words, award_read, sizes_read}
-use Rattle.command_words.proofs.Laws.{spelt_read, read_spelt, mapped, number_argument, sizes_plain, ArePlain}
-use Rattle.command_words.proofs.Tests.{given_spelt, stands_is, same_refl, bytes_same, both_true}
+use Rattle.command_words.specs.Reading.{Texts, commands, texts_of, texts_in, named_read, sizes_read}
+use Rattle.command_words.proofs.Laws.{spelt_read, read_spelt, mapped, number_argument, sizes_plain}
+use Rattle.command_words.proofs.Tests.{given_spelt, stands_is, bytes_same}
 use Rattle.command_words.proofs.Steps.{now_of}
 use Rattle.command_words.proofs.Forms as forms
 use Rattle.command_words.proofs.Forms.{Reads, IsPlain, no_texts, sized}
 use Rattle.command_words.specs.declared.command.Sizes.{Sizes}
 use Rattle.command_words.specs.declared.command.Command.{Command}
-use Rattle.command_words.specs.declared.command.Command.TheVariants.{Check, Award, Show, Make, Trial}
+use Rattle.command_words.specs.declared.command.Command.TheVariants.{Award, Make, Trial}
 
 no_dash : (b : ℕ) → not (b == 45) ≡ true → (b == 45) ≡ false
 no_dash b h = grind (arith, nat_tests)
@@ -226,8 +223,13 @@ some_rows (Some p) rows h = ap (option_map texts_in) h
 
 pub found_same : (m : ArgMatches) → texts_found m ≡ texts_in (rows_of (found_of m))
 found_same m =
-    rw (first_value-rows (found_of m) (codes "nodes"), first_value-rows (found_of m) (codes "member"), first_value-rows (found_of m) (codes "number"),
-    first_value-rows (found_of m) (codes "members"), first_value-rows (found_of m) (codes "pairings")) refl
+    rw (
+      first_value-rows (found_of m) (codes "nodes"),
+      first_value-rows (found_of m) (codes "member"),
+      first_value-rows (found_of m) (codes "number"),
+      first_value-rows (found_of m) (codes "members"),
+      first_value-rows (found_of m) (codes "pairings"),
+    ) refl
 
 pub end_found : (texts words : List Text) (name head : Text) (rest : List Text) (rows : List Row) (read : Option Command)
     → texts ≡ codes "pbs" ∷ words → texts ≡ name ∷ head ∷ rest

@@ -1,4 +1,4 @@
-use Rattle.std.proofs.Common.{rules, ◌≡◌, map, None}
+use Rattle.std.proofs.Common.{rules, ◌≡◌, None}
 use Rattle.std.proofs.lemmas.Result.{IfOk-weaker}
 use Rattle.command_words.proofs.Steps.{now_of}
 use Rattle.command_words.proofs.Whole.{end_refused, ends_nothing, ends_found}
