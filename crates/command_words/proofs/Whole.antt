@@ -21,7 +21,7 @@ use Rattle.command_words.specs.Spelling.Stands.{alone, two_words, one_word}
 use Rattle.command_words.specs.Spelling.Spells.{check, award, show, make, trial}
 use Rattle.command_words.specs.Reading.{Texts, commands, texts_of, texts_in, named_read, sizes_read}
 use Rattle.command_words.proofs.Laws.{spelt_read, read_spelt, mapped, number_argument, sizes_plain}
-use Rattle.command_words.proofs.Tests.{given_spelt, stands_is, bytes_same}
+use Rattle.command_words.proofs.Standing.{given_spelt, stands_is, bytes_same}
 use Rattle.command_words.proofs.Steps.{now_of}
 use Rattle.command_words.proofs.Forms as forms
 use Rattle.command_words.proofs.Forms.{Reads, IsPlain, no_texts, sized}
