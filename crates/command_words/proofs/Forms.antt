@@ -1,5 +1,5 @@
 -- What clap makes of the words of each command.
-use Rattle.std.proofs.Common.{◌≡◌, ◌++◌, ℕ, Bool, true, false, List, [], ◌∷◌, Option, Some, None, refl, codes}
+use Rattle.std.proofs.Common.{◌≡◌, ◌++◌, true, false, List, [], ◌∷◌, Option, Some, None, refl, codes}
 use Rattle.std.specs.Str.{bytes_eq}
 use Rattle.clap.specs.Lexer.{strip_byte}
 use Rattle.clap.specs.Walk.{Text}
@@ -31,7 +31,6 @@ award_form = record { taken = refl; found = refl }
 pub award_one : (n : Text) → Reads (codes "award" ∷ (codes "--nodes=" ++ n) ∷ []) (record no_texts { nodes = Some n })
 unfolding clap_on_literals
 award_one n = record { taken = refl; found = refl }
-
 
 pub award_two : (n : Text) → IsPlain n → Reads (codes "award" ∷ codes "--nodes" ∷ n ∷ []) (record no_texts { nodes = Some n })
 unfolding clap_on_literals

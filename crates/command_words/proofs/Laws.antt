@@ -1,5 +1,5 @@
 -- The two definitions of commands say the same.
-use Rattle.std.proofs.Common.{◌≡◌, ◌≢◌, ◌∙◌, ◌++◌, ◌^◌, ℕ, Bool, true, false, cond, List, [], ◌∷◌, take, drop, Option, Some, None, Result, Ok, Err, refl, sym, ap, subst, codes, arith, inl, inr}
+use Rattle.std.proofs.Common.{◌≡◌, ◌∙◌, ◌++◌, ◌^◌, ℕ, Bool, true, false, cond, List, [], ◌∷◌, take, drop, Option, Some, None, Result, Ok, Err, refl, sym, ap, subst, codes, arith, inl, inr}
 use Rattle.std.specs.Prelude.{not, ◌==◌, if◌then◌else◌, option_and_then, option_map}
 use Rattle.std.proofs.lemmas.Bool.{cases_eq}
 use Rattle.std.proofs.lemmas.Bool.Decides.{nat_tests}
@@ -15,7 +15,7 @@ use Rattle.field_text.specs.Form.{fault_from}
 use Rattle.field_text.specs.declared.field_fault.FieldFault.{FieldFault}
 use Rattle.field_text.proofs.Numbers.{number-other}
 use Rattle.command_words.specs.Numbers.{within, number_in, if_read, long_in, long_field, nodes_in, sizes_in}
-use Rattle.command_words.specs.Words.{Parts, is_argument, is_joined, apart, behind, option_out, check_in, award_in, show_in, sizes_of, make_in, trial_in, command_in}
+use Rattle.command_words.specs.Words.{Parts, is_argument, is_joined, apart, behind, option_out, check_in, award_in, show_in, make_in, trial_in, command_in}
 use Rattle.command_words.specs.Spelling.{Stands, Spells}
 use Rattle.command_words.specs.Spelling.Stands.{alone, two_words, one_word}
 use Rattle.command_words.specs.Spelling.Spells.{check, award, show, make, trial}

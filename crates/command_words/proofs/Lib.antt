@@ -1,6 +1,6 @@
 pub mod Forms
 pub mod Laws
-pub mod Tests
+pub mod Standing
 pub mod Whole
 pub mod Numbers
 pub mod Steps

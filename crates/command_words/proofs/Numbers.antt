@@ -1,21 +1,21 @@
 -- Words that are read as numbers, and words that are too long for one.
-use Rattle.std.proofs.Common.{◌≡◌, ◌≢◌, ℕ, ◌+◌, ◌*◌, ◌^◌, ◌<◌, ◌≤◌, Bool, true, false, cond, List, [], ◌∷◌, length, get_or, Option, Some, None, Result, Ok, Err, refl, sym, ap, ◌∙◌, subst, arith, inl, inr, drop}
+use Rattle.std.proofs.Common.{◌≡◌, ℕ, ◌+◌, ◌^◌, ◌<◌, ◌≤◌, Bool, true, false, cond, List, [], ◌∷◌, length, get_or, Option, Some, None, Result, Ok, Err, refl, sym, ap, ◌∙◌, subst, arith, inl, inr}
 use Rattle.std.proofs.lemmas.Bool.{cases_lt, cases_eq}
 use Rattle.std.proofs.lemmas.Bool.Decides.{nat_tests}
 use Rattle.std.proofs.lemmas.Fmt.{decimal-digits_value, length-decimal-le}
 use Rattle.std.proofs.lemmas.Str.Parse.{numerals_by_value, tells_digits}
 use Rattle.std.proofs.lemmas.Str.{digit_value_digit}
 use Rattle.std.specs.Char.{digit_value}
-use Rattle.std.specs.Prelude.{decimal, nat_lt, nat_le, ◌&&◌, ◌==◌, slice_index}
+use Rattle.std.specs.Prelude.{nat_lt, nat_le, ◌&&◌, ◌==◌}
 use Rattle.std.specs.Str.Parse.{AllDigits, IsNumeral, ParsesUnsigned, digits_value, without_leading_plus}
-use Rattle.field_text.specs.declared.form.Class.TheVariants.{Digit, NonZero, Byte}
+use Rattle.field_text.specs.declared.form.Class.TheVariants.{Digit}
 use Rattle.field_text.specs.declared.field_fault.FieldFault.{FieldFault}
-use Rattle.field_text.specs.declared.field_fault.FieldFault.TheVariants.{Empty, Range, Shape}
-use Rattle.field_text.specs.Fields.{field, number, number_field, below, shaped}
-use Rattle.field_text.specs.Form.{Form, finished, many, fault_from, is_in}
+use Rattle.field_text.specs.declared.field_fault.FieldFault.TheVariants.{Range}
+use Rattle.field_text.specs.Fields.{number, number_field, below, shaped}
+use Rattle.field_text.specs.Form.{finished, many, fault_from, is_in}
 use Rattle.field_text.specs.Steps.{or_fault}
 use Rattle.field_text.proofs.Numbers.{number-zeros, number-digits, number-other}
-use Rattle.command_words.specs.Numbers.{within, number_in, if_read, long_in, long_field}
+use Rattle.command_words.specs.Numbers.{within, number_in, if_read, long_in}
 
 not_some : (o : Option ℕ) (n : ℕ) → o ≡ Some n → o ≡ None → ⊥
 not_some o n a b = absurd cc

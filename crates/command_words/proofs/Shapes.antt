@@ -1,9 +1,10 @@
 -- What clap was told, one argument and one command at a time.
-use Rattle.std.proofs.Common.{◌≡◌, ◌∙◌, ◌&&◌, Bool, true, false, refl, ap, ap₂}
+use Rattle.std.proofs.Common.{List, Some, None, ◌≡◌, ◌∙◌, ◌&&◌, Bool, true, false, refl, ap, ap₂}
 use Rattle.std.specs.Prelude.{not, Result, Ok, Err, IfOk, IsOkAnd}
 use Rattle.clap.specs.declared.builder.arg.Arg.{Arg}
 use Rattle.clap.specs.declared.builder.command.Command.{Command as Grammar}
-use Rattle.clap.specs.Words.{AddsArg, AddsSubcommand, App, Rule, Text, app_of, is_simple, new_app, rule_of, with_rule, with_subcommand}
+use Rattle.clap.specs.declared.parser.matches.ArgMatches.{ArgMatches}
+use Rattle.clap.specs.Words.{AddsArg, AddsSubcommand, App, HasMatchesOf, Rule, Text, app_of, is_simple, subcommand_of, subcommand_rows_of, takes, new_app, rule_of, with_rule, with_subcommand}
 use Rattle.clap.proofs.OnLiterals.{clap_on_literals}
 use Rattle.command_words.specs.Reading.{commands}
 
@@ -35,3 +36,13 @@ pub told_one : {E : Type 0} (n name : Text) (given r : Rule) (told : Result Gram
     → IfOk told (λ c. app_of c ≡ with_rule (new_app n) given) → IfOk told (λ c. app_of c ≡ with_rule (new_app name) r)
 told_one n name given r (Ok c) e f h = h ∙ ap₂ with_rule (ap new_app e) f
 told_one n name given r (Err fault) e f h = tt
+
+pub parsed_rows : (a : App) (words : List Text) (m : ArgMatches) → a ≡ commands → HasMatchesOf a words m → subcommand_rows_of m ≡ subcommand_of commands words
+parsed_rows a words m e h = (h (ap is_simple e ∙ commands_simple)).1 ∙ ap (λ (x : App). subcommand_of x words) e
+
+pub refused_words : {K : Type 0} (a : App) (words : List Text) (kind memory : K) → a ≡ commands → (takes a words ≡ true → kind ≡ memory) → (kind ≡ memory → ⊥)
+    → takes commands words ≡ true → ⊥
+refused_words a words kind memory e h other t = other (h (ap (λ (x : App). takes x words) e ∙ t))
+
+pub some_none : {A : Type 0} (x : A) → Some x ≡ None → ⊥
+some_none x h = cc

@@ -1,14 +1,14 @@
 -- What clap reads gives the command exactly.
-use Rattle.std.proofs.Common.{◌≡◌, ◌∙◌, ◌++◌, ◌≤◌, ℕ, Bool, true, false, cond, List, [], ◌∷◌, Option, Some, None, Result, Ok, Err, refl, sym, ap, subst, codes, ◌&&◌, arith}
-use Rattle.std.specs.Prelude.{◌↔◌, not, ◌==◌, nat_le, if◌then◌else◌, option_and_then, option_map, IfSome}
+use Rattle.std.proofs.Common.{◌≡◌, ◌∙◌, ◌++◌, ◌≤◌, ℕ, Bool, true, false, cond, List, [], ◌∷◌, Option, Some, None, Result, Ok, Err, refl, sym, ap, subst, codes, ◌&&◌, arith, map, take, drop, length}
+use Rattle.std.specs.Prelude.{not, ◌==◌, nat_le, option_and_then, option_map, IfSome}
 use Rattle.std.proofs.lemmas.Bool.{and_parts}
 use Rattle.std.proofs.lemmas.Option.{option_and_then_some}
 use Rattle.std.proofs.lemmas.Bool.Decides.{nat_tests}
-use Rattle.std.proofs.lemmas.Slice.Eq.{bytes_eq-Decides}
-use Rattle.std.specs.Str.{bytes_eq}
-use Rattle.clap.specs.Lexer.{strip_byte}
 use Rattle.clap.specs.Walk.{Text}
-use Rattle.clap.specs.Words.{Row, takes, subcommand_of, found_of, rows_of}
+use Rattle.std.specs.Borrow.{Bor}
+use Rattle.std.proofs.Math.ListN.{drop_of_length-le}
+use Rattle.std.proofs.lemmas.List.{append-nil, take-append-drop}
+use Rattle.clap.specs.Words.{Row, takes, subcommand_of, subcommand_rows_of, found_of, rows_of}
 use Rattle.clap.specs.declared.parser.matches.ArgMatches.{ArgMatches}
 use Rattle.clap.proofs.WalkLemmas.{first_value-rows}
 use Rattle.command_words.specs.Found.{texts_found}
@@ -19,14 +19,15 @@ use Rattle.command_words.specs.Words.{is_argument, command_in, HasLimits}
 use Rattle.command_words.specs.Spelling.{Stands, Spells, IsSpelt}
 use Rattle.command_words.specs.Spelling.Stands.{alone, two_words, one_word}
 use Rattle.command_words.specs.Spelling.Spells.{check, award, show, make, trial}
-use Rattle.command_words.specs.Reading.{Texts, commands, texts_of, texts_in, named_read, stands, same_words, award_read, sizes_read}
-use Rattle.command_words.proofs.Laws.{spelt_read, read_spelt, mapped, number_argument, sizes_plain, ArePlain}
-use Rattle.command_words.proofs.Tests.{given_spelt, stands_is, same_refl, bytes_same, both_true}
+use Rattle.command_words.specs.Reading.{Texts, commands, texts_of, texts_in, named_read, sizes_read}
+use Rattle.command_words.proofs.Laws.{spelt_read, read_spelt, mapped, number_argument, sizes_plain}
+use Rattle.command_words.proofs.Standing.{given_spelt, stands_is, bytes_same}
+use Rattle.command_words.proofs.Steps.{now_of}
 use Rattle.command_words.proofs.Forms as forms
 use Rattle.command_words.proofs.Forms.{Reads, IsPlain, no_texts, sized}
 use Rattle.command_words.specs.declared.command.Sizes.{Sizes}
 use Rattle.command_words.specs.declared.command.Command.{Command}
-use Rattle.command_words.specs.declared.command.Command.TheVariants.{Check, Award, Show, Make, Trial}
+use Rattle.command_words.specs.declared.command.Command.TheVariants.{Award, Make, Trial}
 
 no_dash : (b : ℕ) → not (b == 45) ≡ true → (b == 45) ≡ false
 no_dash b h = grind (arith, nat_tests)
@@ -222,8 +223,13 @@ some_rows (Some p) rows h = ap (option_map texts_in) h
 
 pub found_same : (m : ArgMatches) → texts_found m ≡ texts_in (rows_of (found_of m))
 found_same m =
-    rw (first_value-rows (found_of m) (codes "nodes"), first_value-rows (found_of m) (codes "member"), first_value-rows (found_of m) (codes "number"),
-    first_value-rows (found_of m) (codes "members"), first_value-rows (found_of m) (codes "pairings")) refl
+    rw (
+      first_value-rows (found_of m) (codes "nodes"),
+      first_value-rows (found_of m) (codes "member"),
+      first_value-rows (found_of m) (codes "number"),
+      first_value-rows (found_of m) (codes "members"),
+      first_value-rows (found_of m) (codes "pairings"),
+    ) refl
 
 pub end_found : (texts words : List Text) (name head : Text) (rest : List Text) (rows : List Row) (read : Option Command)
     → texts ≡ codes "pbs" ∷ words → texts ≡ name ∷ head ∷ rest
@@ -284,3 +290,39 @@ limits_of _ _ (trial rest a b c option sizes nodes s h k) = (sizes_limits a b c 
 pub read_has_limits : (words : List Text) (read : Option Command) → read ≡ command_in words → IfSome read HasLimits
 read_has_limits words None e = tt
 read_has_limits words (Some command) e = limits_of words command (read_spelt words command (sym e))
+
+-- ---- the three ends over what the calls answered
+
+rows_given : (texts : List Text) (given : Option ArgMatches) (m : ArgMatches) → given ≡ Some m
+    → IfSome given (λ (x : ArgMatches). subcommand_rows_of x ≡ subcommand_of commands texts) → subcommand_rows_of m ≡ subcommand_of commands texts
+rows_given texts given m e h = subst (λ (o : Option ArgMatches). IfSome o (λ (x : ArgMatches). subcommand_rows_of x ≡ subcommand_of commands texts)) e h
+
+no_pair : (o : Option (Text × List Row)) → None ≡ option_map (λ p. p.1) o → o ≡ None
+no_pair None h = refl
+no_pair (Some p) h = absurd cc
+
+pub ends_nothing : (texts words : List Text) (given : Option ArgMatches) (m : ArgMatches) → texts ≡ codes "pbs" ∷ words → given ≡ Some m
+    → IfSome given (λ (x : ArgMatches). subcommand_rows_of x ≡ subcommand_of commands texts)
+    → None ≡ option_map (λ p. p.1) (subcommand_rows_of m) → None ≡ command_in words
+ends_nothing texts words given m e some h none = end_nothing texts words e (sym (rows_given texts given m some h) ∙ no_pair (subcommand_rows_of m) none)
+
+pub ends_found : (texts behind rest : List (Bor Text)) (words : List Text) (program head : Bor Text) (given : Option ArgMatches) (m found : ArgMatches) (read : Option Command)
+    → now_of texts ≡ codes "pbs" ∷ words → texts ≡ program ∷ behind → behind ≡ head ∷ rest → given ≡ Some m
+    → IfSome given (λ (x : ArgMatches). subcommand_rows_of x ≡ subcommand_of commands (now_of texts))
+    → Some (rows_of (found_of found)) ≡ option_map (λ p. p.1) (subcommand_rows_of m)
+    → read ≡ named_read head.now (now_of rest) (texts_found found) → read ≡ command_in words
+ends_found texts behind rest words program head given m found read e f g some h rows r =
+    end_found (now_of texts) words program.now head.now (now_of rest) (rows_of (found_of found)) read e
+    (ap now_of f ∙ ap (λ (l : List (Bor Text)). program.now ∷ now_of l) g)
+    (ap (λ (o : Option (Text × List Row)). option_map (λ p. p.1) o) (sym (rows_given (now_of texts) given m some h)) ∙ sym rows)
+    (r ∙ ap (named_read head.now (now_of rest)) (found_same found))
+
+take_whole : {A : Type 0} (xs : List A) (i : ℕ) → length xs ≤ i → take i xs ≡ xs
+take_whole {A} xs i h =
+    let none : drop i xs ≡ [] = drop_of_length-le xs h in
+    sym (append-nil (take i xs)) ∙ ap (λ (l : List A). take i xs ++ l) (sym none) ∙ take-append-drop i xs
+
+-- every word was copied
+pub whole_words : {A : Type 0} (f : A → Text) (xs : List A) (i : ℕ) (texts : List Text) → texts ≡ codes "pbs" ∷ map f (take i xs) → length xs ≤ i
+    → texts ≡ codes "pbs" ∷ map f xs
+whole_words {A} f xs i texts e h = e ∙ ap (λ (l : List A). codes "pbs" ∷ map f l) (take_whole xs i h)

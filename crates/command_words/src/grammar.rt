@@ -25,11 +25,7 @@ fn needed<'w>(alloc: Global, id: &'w str) -> Arg<'w>
 }
 
 /// A command with one argument or option.
-fn with_one<'w>(
-    alloc: Global,
-    name: &'w str,
-    argument: Arg<'w>,
-) -> Result<Grammar<'w>, AllocError>
+fn with_one<'w>(alloc: Global, name: &'w str, argument: Arg<'w>) -> Result<Grammar<'w>, AllocError>
     requires here { argument.global ≡ false }
     ensures shape { IfOk result (λ c. app_of c ≡ with_rule (new_app name.entry.now) (rule_of argument.entry)) }
 {

@@ -1,4 +1,4 @@
-use Rattle.std.proofs.Common.{rules, ◌≡◌, codes, refl}
+use Rattle.std.proofs.Common.{◌≡◌, codes, refl}
 use Rattle.std.proofs.lemmas.Result.{IfOk-weaker}
 use Rattle.clap.specs.Words.{App, app_of, with_rule, with_subcommand}
 use Rattle.command_words.specs.Reading.{month_commands, nodes_rule, sized_app}

@@ -1,6 +1,6 @@
 -- The test of words against what was read, and what was read against the words.
 use Rattle.std.proofs.Common.{◌≡◌, ◌∙◌, ◌++◌, ℕ, Bool, true, false, cond, List, [], ◌∷◌, take, drop, Option, Some, None, refl, sym, ap, subst, codes, inl, inr, ◌&&◌, ◌||◌}
-use Rattle.std.specs.Prelude.{if◌then◌else◌, option_and_then, option_map}
+use Rattle.std.specs.Prelude.{if◌then◌else◌, option_map}
 use Rattle.std.proofs.lemmas.Bool.{and_parts, or_cases}
 use Rattle.std.proofs.lemmas.List.{take-append-drop}
 use Rattle.std.proofs.lemmas.Option.{option_and_then_some}
@@ -11,12 +11,12 @@ use Rattle.command_words.specs.Numbers.{nodes_in, sizes_in}
 use Rattle.command_words.specs.Words.{is_argument, check_in}
 use Rattle.command_words.specs.Spelling.{Stands, Spells}
 use Rattle.command_words.specs.Spelling.Stands.{alone, two_words, one_word}
-use Rattle.command_words.specs.Spelling.Spells.{check, award, show, make, trial}
+use Rattle.command_words.specs.Spelling.Spells.{award, show, make, trial}
 use Rattle.command_words.specs.Reading.{Texts, joins, same_words, begins_apart, begins, heads, has_option, stands, award_read, name_read, sizes_read, make_read, trial_read, named_read}
 use Rattle.command_words.proofs.Laws.{by_word, check_spelt, mapped, moved}
 use Rattle.command_words.specs.declared.command.Sizes.{Sizes}
 use Rattle.command_words.specs.declared.command.Command.{Command}
-use Rattle.command_words.specs.declared.command.Command.TheVariants.{Check, Award, Show, Make, Trial}
+use Rattle.command_words.specs.declared.command.Command.TheVariants.{Award, Show, Make, Trial}
 
 -- ---- words that pass the test stand so
 
