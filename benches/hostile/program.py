@@ -3,9 +3,9 @@ import contextlib
 import os
 import pathlib
 import shutil
+import signal
 import subprocess
 import tempfile
-import time
 
 TOP = pathlib.Path(__file__).resolve().parents[2]
 PROGRAM = os.environ.get("PROGRAM", str(TOP / "crates/roster_cli/out/roster_cli"))
@@ -13,22 +13,28 @@ INPUTS = [
     "rules.toml", "pairings.csv", "duties.csv", "legs.csv", "crew.csv", "history.csv", "fixed.csv", "bids.txt",
 ]
 AWARD = ["certificate.txt", "reasons.txt", "roster.csv"]
+STOPPED = (-signal.SIGXCPU, -signal.SIGKILL)
 JUDGED = INPUTS + ["certificate.txt", "roster.csv", "reasons.txt"]
 
 
-class Run:
-    """The exit code of a run (None where it was stopped at the limit), what it printed, its seconds and its MiB."""
+LIMITS = 'ulimit -t "$1"; ulimit -v "$2"; shift 2; exec "$@"'
+MOST_MEMORY = 6 * 2**20
 
-    def __init__(self, folder, *words, limit=600, **options):
-        begun = time.monotonic()
-        options.setdefault("stdout", subprocess.PIPE)
-        run = subprocess.Popen(["timeout", "-s", "KILL", str(limit), PROGRAM, str(folder), *words], **options)
+
+class Run:
+    """The exit code of a run (None where it was stopped), what it printed, its seconds of the processor, and its MiB
+    (not less than those of this script). It is stopped after so many seconds of the processor, and has 6 GiB of memory.
+    """
+
+    def __init__(self, folder, *words, limit=60, stdout=subprocess.PIPE):
+        command = ["sh", "-c", LIMITS, "sh", str(limit), str(MOST_MEMORY), PROGRAM, str(folder), *words]
+        run = subprocess.Popen(command, stdout=stdout)
         printed = run.stdout.read() if run.stdout else b""
         status, usage = os.wait4(run.pid, 0)[1:]
         run.returncode = os.waitstatus_to_exitcode(status)
-        self.code = None if run.returncode in (-9, 137) else run.returncode
+        self.code = None if run.returncode in STOPPED else run.returncode
         self.printed = printed.decode("ascii", "replace")
-        self.seconds = time.monotonic() - begun
+        self.seconds = usage.ru_utime + usage.ru_stime
         self.mebibytes = usage.ru_maxrss // 1024
 
     def line(self):
