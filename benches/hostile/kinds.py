@@ -24,7 +24,7 @@ def proof_of_none(items):
     return "\n".join(["pbs-certificate 1", "none", f"proof {count}", *items, "end", ""])
 
 
-def two_for_one(members, pairings):
+def one_each(members, pairings):
     """Trips of which each needs one pilot."""
     days = [1 + p % 30 for p in range(pairings)]
     return months.day_trips(days) | {"crew.csv": months.crew(members)}
@@ -42,25 +42,22 @@ def counts():
     """Two pilots fly a pairing that needs one; below that, a path of 20,000 decisions, closed by `count` each time."""
     pairs = [(m, p) for p in range(2, 601) for m in range(1, 201)][: MOST_SPLITS - 2]
     text = proof_of_none(path([(1, 1), (2, 1)], pairs, "count 1"))
-    return Kind(two_for_one(200, 600), text, len(pairs) + 1)
+    return Kind(one_each(200, 600), text, len(pairs) + 1)
 
 
 def fixeds():
-    """One pilot flies two trips of one day and no others; below that a path of 200 decisions, closed by `fixed`."""
-    flown = [(1, 1), (1, 31)]
-    decided = [(1, p) for p in range(2, 601) if p != 31]
-    below = [(m, p) for p in range(1, 601) for m in range(2, 201)][:200]
-    items = [f"split {m} {p}" for m, p in flown]
-    for member, pairing in decided:
-        items += [f"split {member} {pairing}", "noline 1 60 0000000000000000 0 0"]
+    """15,000 decisions of other pilots; then one pilot flies everything, and below that 100 more, closed by `fixed`."""
+    others = [(m, p) for p in range(1, 601) for m in range(2, 201)][:15_100]
+    above, below = others[:15_000], others[15_000:]
+    items = [f"split {m} {p}" for m, p in [*above, *((1, p) for p in range(1, 601))]]
     items += [line for m, p in below for line in (f"split {m} {p}", "fixed 1")]
-    return Kind(two_for_one(200, 600), proof_of_none([*items, "fixed 1"]), len(below) + 1)
+    return Kind(one_each(200, 600), proof_of_none([*items, "fixed 1"]), len(below) + 1)
 
 
 def nolines():
-    """One pilot flies two trips of one day; below that a path of 40 decisions, each closed by a lens that looks at all."""
+    """One pilot flies two trips of one day; below that a path of 40 decisions, closed by a lens that looks at all."""
     items = path([(1, 1), (1, 31)], [(1, p) for p in range(2, 602) if p != 31][:40], lenses.noline(1, lenses.WINDOWS))
-    files = two_for_one(200, 600)
+    files = one_each(200, 600)
     files["bids.txt"] = lenses.fly_bids(1)
     return Kind(files, proof_of_none(items), 41)
 
@@ -75,8 +72,8 @@ def weights_kind(members, repeats, lens, build):
 
 
 def plain_weights():
-    """90 pilots, 600 pairings, standard lenses: the same weights at 2 nodes."""
-    return weights_kind(90, 2, "60 0000000000000000 0 0", lenses.plain)
+    """90 pilots, 600 pairings, standard lenses: the same at ten nodes, of which each decides one pair more."""
+    return weights_kind(90, 10, "60 0000000000000000 0 0", lenses.plain)
 
 
 def fine_weights():
@@ -100,7 +97,7 @@ def all_weights():
 
 
 def bid_line():
-    """One pilot of 40 bids for 64 places that trips touch here and there: no line scores more than a good one, in truth or not."""
+    """A pilot bids for 64 stations that trips touch here and there, and flies a good line. Is there a better one?"""
     return floor_kind("60 ffffffffffffffff 0 0")
 
 
@@ -117,19 +114,19 @@ def floor_kind(lens):
 
 
 def shown_rosters():
-    """200 pilots with the most rows of history, of whom each is denied a bid: a roster is shown for each."""
-    return Kind(*rosters.shown(200, 1, 500))
+    """200 pilots with a flight on each of 360 days before. Each is denied a bid, and a roster is shown for each."""
+    return Kind(*rosters.shown(200, 1, 360))
 
 
 def most_reasons():
-    """The same with 63 denied bids each, and no history."""
+    """The same with 63 denied bids each, and no flights before."""
     return Kind(*rosters.shown(200, 63, 0))
 
 
 def long_history():
-    """A pilot with the most rows of history and of fixed events, and a lens that looks at all of it, 41 times."""
+    """The same of a pilot with a flight on each of the 360 days before."""
     kind = nolines()
-    kind.files |= rosters.history([1], 500)
+    kind.files |= rosters.history([1], 360)
     return kind
 
 

@@ -1,11 +1,13 @@
 """Awards with as many reasons as can be, each a tie that a roster shows."""
+import datetime
+
 import months
 
 FLIGHT = "M{0},flight,{1}T08:00Z,{1}T10:00Z,{1}T10:30Z,{1}T08:30Z/{1}T09:30Z,0:00\n"
 
 
 def history(members, rows):
-    """A flight of an hour, twice on each second day of the year before."""
+    """A flight of an hour on each of so many days before the month, of at most 360."""
     text = months.EVENTS
     for member in members:
         text += "".join(FLIGHT.format(member, day) for day in days_before(rows))
@@ -14,8 +16,6 @@ def history(members, rows):
 
 def days_before(rows):
     """So many days before June of 2026, the earliest first."""
-    import datetime
-
     last = datetime.date(2026, 5, 30)
     return [str(last - datetime.timedelta(days=n)) for n in range(min(rows, 360), 0, -1)]
 
