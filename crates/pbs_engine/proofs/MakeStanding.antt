@@ -42,7 +42,7 @@ use Rattle.pbs_engine.proofs.AwardStanding.{cond_apart}
 abbrev Given : Type 0
 Given = List (List ℕ × List ℕ)
 
-given : Files → Given → Files
+abbrev given : Files → Given → Files
 given files [] = files
 given files (x ∷ xs) = given (insert files x.0 x.1) xs
 
@@ -51,7 +51,7 @@ given_told files [] = refl
 given_told files (x ∷ xs) = given_told (insert files x.0 x.1) xs
 
 -- the bytes under a name are the last that it was given
-last_of : List ℕ → Given → Option (List ℕ) → Option (List ℕ)
+abbrev last_of : List ℕ → Given → Option (List ℕ) → Option (List ℕ)
 last_of name [] before = before
 last_of name (x ∷ xs) before = last_of name xs (cond (is_eq (slice_cmp nat_cmp name x.0)) (Some x.1) before)
 
