@@ -337,7 +337,7 @@ june_short =
     omega (
       arith,
       six (text_line (codes "base") home) (text_line (codes "seat") (codes "FO")) (number_line (codes "year") (pos 2026)) (number_line (codes "month") (pos 6))
-      (number_line (codes "offset") (pos 0)) (number_line (codes "days_off") (pos 10)),
+          (number_line (codes "offset") (pos 0)) (number_line (codes "days_off") (pos 10)),
       text_width (codes "base") home,
       text_width (codes "seat") (codes "FO"),
       number_width (codes "year") 2026 (omega arith),

@@ -36,7 +36,8 @@ fn add(drafts: &mut List<Draft>, file: File, bytes: List<u8>) -> Result<(), Memo
 fn add_rules(alloc: Global, drafts: &mut List<Draft>, base: &Base) -> Result<(), Memory>
     requires rules { IsRules base.now.rules }
     ensures added { OnOk result (drafts.new ≡ drafts.old ++ rules_drafts base.now) }
-    ensures again { OnOk result (rules_file (rules_text (values base.now.rules)) ≡ Ok (values base.now.rules)) }
+    ensures again { OnOk result (rules_file (rules_text (values base.now.rules))
+        ≡ Ok (values base.now.rules)) }
 {
     let mut text = List::new(alloc);
     put_rules(&mut text, &base.rules)?;
@@ -48,7 +49,8 @@ fn add_pairings(alloc: Global, drafts: &mut List<Draft>, base: &Base) -> Result<
     requires pairings { ArePairings base.now.rules.horizon base.now.pairings }
     ensures added { OnOk result (drafts.new ≡ drafts.old ++ pairings_drafts base.now) }
     ensures again { OnOk result (pairings_of base.now.rules.horizon (pairings_text base.now.pairings)
-        (duties_text base.now.rules.horizon base.now.pairings) (legs_text base.now.rules.horizon base.now.pairings) ≡ Ok base.now.pairings) }
+        (duties_text base.now.rules.horizon base.now.pairings)
+        (legs_text base.now.rules.horizon base.now.pairings) ≡ Ok base.now.pairings) }
 {
     let PairingTexts {
         pairings,
@@ -65,7 +67,8 @@ fn add_members(alloc: Global, drafts: &mut List<Draft>, base: &Base) -> Result<(
     requires members { AreMembers base.now.rules.horizon base.now.members }
     ensures added { OnOk result (drafts.new ≡ drafts.old ++ members_drafts base.now) }
     ensures again { OnOk result (members_of base.now.rules.horizon (crew_text base.now.members)
-        (events_text base.now.rules.horizon Past base.now.members) (events_text base.now.rules.horizon Given base.now.members) ≡ Ok base.now.members) }
+        (events_text base.now.rules.horizon Past base.now.members)
+        (events_text base.now.rules.horizon Given base.now.members) ≡ Ok base.now.members) }
 {
     let MemberTexts {
         crew,

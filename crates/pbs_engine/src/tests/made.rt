@@ -10,7 +10,10 @@ use std::test::Fail;
 
 /// Two members, of whom one flies on the day that it wants off and the other has leave then.
 const LEAVE: [(&str, &[u8]); 4] = [
-    ("crew.csv", b"member,low,high\nM1,0:00,90:00\nM2,0:00,90:00\n"),
+    (
+        "crew.csv",
+        b"member,low,high\nM1,0:00,90:00\nM2,0:00,90:00\n",
+    ),
     (
         "fixed.csv",
         b"member,kind,report,parked,release,legs,credit\nM2,leave,2026-06-10T00:00Z,2026-06-11T00:00Z,2026-06-11T00:00Z,,0:00\n",
