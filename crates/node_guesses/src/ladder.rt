@@ -1,6 +1,6 @@
 //! Lenses that look at more and more.
 
-use duty_calendar::List;
+use duty_calendar::{List, Memory};
 use line_legality::Illegal;
 use roster_model::{Lens, Problem, Window, WindowKind, Wish};
 use std::alloc::Global;
@@ -39,6 +39,22 @@ pub(crate) fn first_lens(alloc: Global, problem: &Problem, member: usize) -> Len
         days: false,
         windows: List::new(alloc),
     }
+}
+
+/// Whether the lens is the first one of its member.
+pub(crate) fn is_first(lens: &Lens) -> bool {
+    lens.grain == 60 && !lens.free30 && !lens.days && lens.windows.len() == 0
+}
+
+/// The first lenses of all members.
+pub(crate) fn first_lenses(alloc: Global, problem: &Problem) -> Result<List<Lens>, Memory> {
+    let mut lenses = List::new(alloc);
+    for member in 0..problem.base.members.len() {
+        if lenses.push(first_lens(alloc, problem, member)).is_err() {
+            return Err(Memory::NoMemory);
+        }
+    }
+    Ok(lenses)
 }
 
 /// Sets a flag, and tells whether it was not set.

@@ -6,7 +6,7 @@ use crate::board::Row;
 use crate::kept::{Kept, number};
 use crate::ladder::{first_lens, refine};
 use crate::tested::row_over;
-use duty_calendar::Memory;
+use duty_calendar::{Copied, Memory};
 use line_generator::{Over, PricedLine};
 use roster_model::{Goal, Lens, Problem};
 use std::alloc::Global;
@@ -54,7 +54,8 @@ impl Care {
     }
 }
 
-/// Keeps a line that was found. Answers that it is to serve, or lets the lens look at the rule that it breaks.
+/// Keeps a line that was found. Answers that it is to serve, or lets the lens look at the rule that it breaks; the
+/// member's searches begin with that lens from then on, or with the first one where it can't see more.
 fn look(
     alloc: Global,
     problem: &Problem,
@@ -67,18 +68,20 @@ fn look(
         return Ok((None, true));
     };
     let found = Some(Priced::Line(place, priced.weight));
-    match kept.broken(member, place) {
-        None => Ok((found, true)),
-        Some(why) => {
-            let is_finer = refine(lens, why);
-            Ok((found, !is_finer))
-        }
+    let Some(why) = kept.broken(member, place) else {
+        return Ok((found, true));
+    };
+    let is_finer = refine(lens, why);
+    if is_finer {
+        kept.look_through(member, lens.copy(alloc)?);
+    } else {
+        kept.look_through(member, first_lens(alloc, problem, member));
     }
+    Ok((found, !is_finer))
 }
 
-/// A legal line of the member above the bound, or that none passes a lens. Where searches for a legal one run out of
-/// steps, an illegal one may be answered.
-pub(crate) fn price(
+/// As `price`, by a ladder that begins with this lens.
+fn price_from(
     alloc: Global,
     problem: &Problem,
     kept: &mut Kept,
@@ -88,10 +91,11 @@ pub(crate) fn price(
     weights: &[i64],
     over: i64,
     care: Care,
+    lens: Lens,
 ) -> Result<Priced, Memory>
     requires goal { IsGoal problem.now goal.now }
 {
-    let mut lens = first_lens(alloc, problem, member);
+    let mut lens = lens;
     let mut found = Priced::Unknown;
     for _ in 0..MOST_RUNGS {
         let steps = care.steps();
@@ -120,4 +124,49 @@ pub(crate) fn price(
         }
     }
     Ok(found)
+}
+
+/// A legal line of the member above the bound, or that none passes a lens. Where searches for a legal one run out of
+/// steps, an illegal one may be answered. The ladder begins with the lens that sees the rules which lines broke before.
+pub(crate) fn price(
+    alloc: Global,
+    problem: &Problem,
+    kept: &mut Kept,
+    member: usize,
+    goal: &Goal,
+    row: &Row,
+    weights: &[i64],
+    over: i64,
+    care: Care,
+) -> Result<Priced, Memory>
+    requires goal { IsGoal problem.now goal.now }
+{
+    let lens = kept.lens(alloc, problem, member)?;
+    price_from(
+        alloc, problem, kept, member, goal, row, weights, over, care, lens,
+    )
+}
+
+/// As `price`, by a ladder that begins with the first lens, so that the last one sees no more than it has to. Other
+/// searches of the member begin as before.
+pub(crate) fn price_afresh(
+    alloc: Global,
+    problem: &Problem,
+    kept: &mut Kept,
+    member: usize,
+    goal: &Goal,
+    row: &Row,
+    weights: &[i64],
+    over: i64,
+    care: Care,
+) -> Result<Priced, Memory>
+    requires goal { IsGoal problem.now goal.now }
+{
+    let before = kept.lens(alloc, problem, member)?;
+    let lens = first_lens(alloc, problem, member);
+    let priced = price_from(
+        alloc, problem, kept, member, goal, row, weights, over, care, lens,
+    )?;
+    kept.look_through(member, before);
+    Ok(priced)
 }
