@@ -3,6 +3,7 @@ pub mod LeavingArcs
 pub mod RestLemmas
 pub mod Walking
 pub mod Hunting
+pub mod Climbing
 pub mod BitLoops
 pub mod BitChoice
 pub mod Marked

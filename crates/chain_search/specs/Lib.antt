@@ -1,4 +1,4 @@
-pub mod Answers
+pub mod Climbs
 pub mod Leavings
 pub mod Marking
 pub mod Searches
