@@ -1,5 +1,5 @@
 -- Bits that no later arc clears stay set, so that a bound may count them.
-use Rattle.std.proofs.Common.{◌≡◌, ℕ, ℤ, ◌+◌, ◌-◌, ◌*◌, ◌^◌, ◌<◌, ◌≤◌, ◌+ℤ◌, ◌≤ℤ◌, neg_ℤ, pos, min, max, List, [], ◌∷◌, ◌++◌, ◌⊎◌, Bool, true, false, Option, None, Some, ◌==◌, inl, inr, refl, sym, ◌∙◌, ap, subst, arith, length, get_or}
+use Rattle.std.proofs.Common.{◌≡◌, ℕ, ℤ, ◌+◌, ◌-◌, ◌*◌, ◌^◌, ◌<◌, ◌≤◌, ◌+ℤ◌, ◌≤ℤ◌, neg_ℤ, pos, min, max, List, [], ◌∷◌, ◌++◌, Bool, true, false, Option, None, Some, ◌==◌, inl, inr, refl, sym, ◌∙◌, ap, subst, arith, length, get_or}
 use Rattle.std.specs.Prelude.{All, bit_and, bit_or, if◌then◌else◌, slice_get}
 use Rattle.std.specs.Int.{bit_at}
 use Rattle.std.proofs.lemmas.Bool.{and_parts}
@@ -17,8 +17,8 @@ use Rattle.label_lattice.specs.Mask.{bits_below, mask_done, mask_extend}
 use Rattle.label_lattice.specs.MaskLaws.{mask_resource_laws}
 use Rattle.label_lattice.specs.Pair.{both_of, pair_done, pair_extend}
 use Rattle.label_setter.specs.declared.graph.Arc.{Arc}
-use Rattle.label_setter.specs.Graphs.{FitsPlaces, IsGraph}
-use Rattle.label_setter.specs.Chains.{GraphOf, Reached, Takes}
+use Rattle.label_setter.specs.Graphs.{IsGraph}
+use Rattle.label_setter.specs.Chains.{GraphOf}
 use Rattle.label_setter.specs.Rests.{IsRest}
 use Rattle.chain_search.specs.declared.lasting.Lasting.{Lasting}
 use Rattle.chain_search.specs.Leavings.{Leaving}

@@ -7,4 +7,5 @@ pub mod BitLoops
 pub mod BitChoice
 pub mod Marked
 pub mod TableRows
+pub mod Raising
 pub mod LastingBits

@@ -17,6 +17,7 @@ mod marks;
 mod parts;
 mod rooms;
 mod search;
+mod shifts;
 mod table;
 mod turns;
 mod ways;
@@ -31,6 +32,7 @@ pub use least::{LeastRest, least_rest};
 pub use parts::{First, Second};
 pub use rooms::Room;
 pub use search::{Answer, find_above};
+pub use shifts::Shift;
 pub use table::{CoarseRest, coarse_rest};
 pub use ways::Ways;
 

@@ -1,10 +1,8 @@
-use Rattle.std.proofs.Common.{◌≡◌, ◌+◌, ◌-◌, ◌<◌, ◌≤◌, ◌^◌, ◌++◌, [], ◌∷◌, List, ℕ, Some, get_or, length, arith, sym, ◌∙◌, ap}
-use Rattle.std.specs.Prelude.{slice_get}
+use Rattle.std.proofs.Common.{◌≡◌, ◌+◌, ◌-◌, ◌≤◌, ◌^◌, ◌++◌, [], ◌∷◌, List, ℕ, arith, ◌∙◌, ap}
 use Rattle.label_lattice.specs.declared.masks.MaskStep.{MaskStep}
 use Rattle.label_lattice.specs.declared.masks.MaskEnd.{MaskEnd}
 use Rattle.label_lattice.specs.Mask.{mask_done, mask_extend}
 use Rattle.label_lattice.specs.Pair.{pair_done, pair_extend}
-use Rattle.label_setter.specs.declared.graph.Arc.{Arc}
 use Rattle.chain_search.proofs.LastingBits.{clears_all, get_last, inside_all, kept_more, kept_start, lasting_is_rest}
 use Rattle.chain_search.proofs.RestLemmas.{rest_is_bound}
 use Rattle.chain_search.proofs.Walking.{fits_at}
