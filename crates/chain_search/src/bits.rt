@@ -67,7 +67,7 @@ fn weight_of(chosen: &[Chosen], state: u32) -> u64
 }
 
 /// The weights of an end together.
-fn all_weights(weights: &[u32; 64]) -> u64
+pub(crate) fn all_weights(weights: &[u32; 64]) -> u64
     ensures total { result ≡ sum weights.now }
     ensures small { result < 2 ^ 39 }
 {

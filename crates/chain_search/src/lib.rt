@@ -21,6 +21,7 @@ mod shifts;
 mod table;
 mod turns;
 mod ways;
+mod weighed;
 
 pub use bits::BitsMove;
 pub use blind::Blind;
