@@ -8,4 +8,6 @@ pub mod BitLoops
 pub mod BitChoice
 pub mod Marked
 pub mod TableRows
+pub mod Raising
+pub mod SetWeights
 pub mod LastingBits

@@ -10,6 +10,7 @@ pub mod Tables
 pub mod Blinds
 pub mod Rooms
 pub mod RoomLaws
+pub mod Shifts
 pub mod Dues
 pub mod DueLaws
 pub mod BitStates

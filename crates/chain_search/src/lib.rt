@@ -18,9 +18,11 @@ mod marks;
 mod parts;
 mod rooms;
 mod search;
+mod shifts;
 mod table;
 mod turns;
 mod ways;
+mod weighed;
 
 pub use bits::BitsMove;
 pub use blind::Blind;
@@ -32,6 +34,7 @@ pub use least::{LeastRest, least_rest};
 pub use parts::{First, Second};
 pub use rooms::Room;
 pub use search::{Climb, Ended, climb_above};
+pub use shifts::Shift;
 pub use table::{CoarseRest, coarse_rest};
 pub use ways::Ways;
 
