@@ -3,8 +3,8 @@ use Rattle.std.specs.Prelude.{◌≡◌, ◌≢◌, ◌≤ℤ◌, ℕ, ℤ, List
 use Rattle.std.specs.Int.Signed.{◌<ℤ◌}
 use Rattle.label_setter.specs.Chains.{GraphOf, IsFeasible}
 use Rattle.label_setter.specs.declared.traces.Traced.{Traced}
-use Rattle.line_generator.specs.declared.climbing.Climb.{Climb}
-use Rattle.line_generator.specs.declared.climbing.Ended.TheVariants.{Enough, Top}
+use Rattle.chain_search.specs.declared.search.Climb.{Climb}
+use Rattle.chain_search.specs.declared.search.Ended.TheVariants.{Enough, Top}
 
 -- no feasible chain gains more
 abbrev pub NoneAbove : {R S E : Type 0} → (R → S → Option R) → (R → E → Bool) → GraphOf R S E → ℤ → Type 0
@@ -28,12 +28,3 @@ pub record Climbs {R S E : Type 0} (extend : R → S → Option R) (done : R →
   pub found : IfSome climb.best (IsAbove extend done graph over)
   pub enough : climb.ended ≡ Enough → climb.best ≢ None
   pub top : climb.ended ≡ Top → NoneAbove extend done graph (raised_to climb.best over)
-
--- the chain that was found last
-abbrev pub later : Option Traced → Option Traced → Option Traced
-later best (Some traced) = Some traced
-later best None = best
-
--- a climb that began at the gain of the best chain before it
-abbrev pub merged : Option Traced → Climb → Climb
-merged best climb = record { best = later best climb.best; ended = climb.ended }
