@@ -3,7 +3,7 @@ use Rattle.std.proofs.lemmas.Option.{slice_get_read}
 use Rattle.weight_certificates.specs.Pricing.{AreHeaviest, IsShapedHeaviest}
 use Rattle.weight_certificates.proofs.Evened.{heaviest_more}
 use Rattle.weight_certificates.proofs.Raised.{shapes_more, shapes_all}
-use Rattle.weight_certificates.proofs.trials.raised_round.Goals as goal
+use Rattle.weight_certificates.proofs.trials.heaviest_lines.Goals as goal
 
 pub loop-member-preserved : goal.loop-member-preserved
 loop-member-preserved c =

@@ -3,7 +3,7 @@ use Rattle.std.specs.Prelude.{Some, slice_get}
 use Rattle.roster_model.specs.declared.proof.Lens.{Lens}
 use Rattle.roster_model.specs.Lenses.{IsLens}
 use Rattle.weight_certificates.specs.Pricing.{AreHeaviest}
-use Rattle.weight_certificates.proofs.trials.raised_round.Given as goal
+use Rattle.weight_certificates.proofs.trials.heaviest_lines.Given as goal
 
 abbrev pub invariant-loop-member : goal.invariant-loop-member
 invariant-loop-member l = record {
