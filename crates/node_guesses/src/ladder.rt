@@ -8,6 +8,9 @@ use std::alloc::Global;
 /// How many windows a lens may look at.
 const MOST_WINDOWS: usize = 16;
 
+/// With how many windows a search begins at most: labels that count more are dear.
+const FIRST_WINDOWS: usize = 4;
+
 /// Whether one pairing of a line can decide the wish.
 pub(crate) fn is_trackable(wish: &Wish) -> bool {
     match wish {
@@ -55,6 +58,25 @@ pub(crate) fn first_lenses(alloc: Global, problem: &Problem) -> Result<List<Lens
         }
     }
     Ok(lenses)
+}
+
+/// The lens once more, with the last few of its windows.
+pub(crate) fn lately(alloc: Global, lens: &Lens) -> Result<Lens, Memory> {
+    let all = lens.windows.as_slice();
+    let from = all.len().saturating_sub(FIRST_WINDOWS);
+    let mut windows = List::new(alloc);
+    for window in all.get(from..).unwrap_or(&[]) {
+        if windows.push(*window).is_err() {
+            return Err(Memory::NoMemory);
+        }
+    }
+    Ok(Lens {
+        grain: lens.grain,
+        tracked: lens.tracked,
+        free30: lens.free30,
+        days: lens.days,
+        windows,
+    })
 }
 
 /// Sets a flag, and tells whether it was not set.
