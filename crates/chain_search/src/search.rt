@@ -137,6 +137,7 @@ fn set_out<R: Resource, B: Rest<R>, L: Ledger>(
     requires ways { AreWays graph.now.arcs graph.now.places ways.now }
     requires rest { IsBound R.extend R.done graph.now (B.rest above.now.rest) }
     ensures hunts { IfOk result (λ answer. IfSome answer (λ walk. Hunts R.extend R.done graph.now above.now.over walk.path.items walk.marks walk.waiting.items)) }
+    ensures few { IfOk result (λ answer. IfSome answer (λ walk. walk.left + length walk.waiting.items ≤ limit)) }
     ensures left { IfOk result (λ answer. IfSome answer (λ walk. steps.new + walk.left ≡ steps.old + limit)) }
     ensures out { IfOk result (λ answer. IfNone answer (steps.new ≡ steps.old + limit)) }
     ensures steps { steps.new ≤ steps.old + limit }
@@ -191,7 +192,7 @@ pub fn climb_above<R: Resource, B: Rest<R> + Drop, L: Ledger>(
     graph: &Graph<R>,
     ways: &Ways,
     above: Above<B>,
-    chains: u32,
+    chains: u64,
     limit: u64,
     steps: &mut Steps<L>,
 ) -> Result<Climb, Memory>
@@ -199,6 +200,7 @@ pub fn climb_above<R: Resource, B: Rest<R> + Drop, L: Ledger>(
     requires rest { IsBound R.extend R.done graph.now (B.rest above.rest) }
     requires some { 0 < chains }
     ensures climbs { IfOk result (Climbs R.extend R.done graph.now above.over) }
+    ensures enough { IfOk result (λ climb. climb.ended ≡ Ended.Enough → steps.old + chains ≤ steps.new) }
     ensures limit { IfOk result (λ climb. climb.ended ≡ Ended.Limit → steps.new ≡ steps.old + limit) }
     ensures steps { steps.new ≤ steps.old + limit }
 {

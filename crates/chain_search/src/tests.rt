@@ -85,7 +85,7 @@ fn climbed_from<R: Resource, C: Coarse<R> + Drop, D: Coarse<R> + Drop, L: Ledger
     graph: &Graph<R>,
     views: (C, D),
     over: i64,
-    chains: u32,
+    chains: u64,
     limit: u64,
     blank: Blank,
 ) -> Result<Option<Climb>, Memory>
@@ -113,7 +113,7 @@ fn climbed<R: Resource, C: Coarse<R> + Drop, D: Coarse<R> + Drop>(
     graph: &Graph<R>,
     views: (C, D),
     over: i64,
-    chains: u32,
+    chains: u64,
     limit: u64,
 ) -> Result<Option<Climb>, Memory>
     requires wanted { 0 < chains }
@@ -158,7 +158,7 @@ fn two_ways_over(alloc: Global, over: i64, limit: u64) -> Option<Climb> {
 }
 
 /// The answer, with none for want of memory.
-fn rivals_over(alloc: Global, over: i64, chains: u32, limit: u64) -> Option<Climb>
+fn rivals_over(alloc: Global, over: i64, chains: u64, limit: u64) -> Option<Climb>
     requires wanted { 0 < chains }
 {
     let graph = rivals(alloc).ok()?;

@@ -8,7 +8,7 @@ ghost use Rattle.roster_model.specs.Goals.{IsNode};
 ghost use Rattle.roster_model.specs.Valid.{IsBid};
 ghost use Rattle.roster_model.specs.Weights.{AreSmallWeights};
 
-use crate::{BestFault, Over, PricedLine, best, best_over, heaviest};
+use crate::{BestFault, Over, PricedLine, best, best_over, heaviest, heaviest_over};
 use duty_calendar::{
     Base, Duty, Flown, Horizon, Leg, List, Member, Memory, Name, Pairing, Rules, Station,
 };
@@ -362,7 +362,15 @@ fn reaches_the_floor_of_a_member(rt: HostRuntime) -> Result<(), BestFault> {
     Ok(())
 }
 
-/// A line above the bound, and the heaviest line, through the first member's standard lens.
+/// A line above a bound, a heaviest line above it, and the heaviest line.
+#[derive(Drop)]
+struct Lines {
+    first: Over,
+    heaviest: Over,
+    most: Option<PricedLine>,
+}
+
+/// The lines that pass the first member's standard lens.
 fn over_from<L: Ledger>(
     alloc: Global,
     problem: &Problem,
@@ -370,7 +378,7 @@ fn over_from<L: Ledger>(
     over: i64,
     limit: u64,
     blank: Blank,
-) -> Result<(Over, Option<PricedLine>), BestFault>
+) -> Result<Lines, BestFault>
     requires some { 0 < length problem.now.base.members }
     requires per_pairing { length weights.now ≡ length problem.now.base.pairings }
     requires small { AreSmallWeights weights.now }
@@ -385,11 +393,18 @@ fn over_from<L: Ledger>(
     let node = Node::new(alloc);
     let lens = standard_lens(alloc, problem, 0);
     let mut steps: Steps<L> = Steps::new(blank);
-    let found = best_over(
+    let first = best_over(
+        alloc, problem, 0, &goal, &node, &lens, weights, over, limit, &mut steps,
+    )?;
+    let over_all = heaviest_over(
         alloc, problem, 0, &goal, &node, &lens, weights, over, limit, &mut steps,
     )?;
     let most = heaviest(alloc, problem, 0, &goal, &node, &lens, weights, &mut steps)?;
-    Ok((found, most))
+    Ok(Lines {
+        first,
+        heaviest: over_all,
+        most,
+    })
 }
 
 fn over_of(
@@ -398,7 +413,7 @@ fn over_of(
     weights: &[i64],
     over: i64,
     limit: u64,
-) -> Result<(Over, Option<PricedLine>), BestFault>
+) -> Result<Lines, BestFault>
     requires some { 0 < length problem.now.base.members }
     requires per_pairing { length weights.now ≡ length problem.now.base.pairings }
     requires small { AreSmallWeights weights.now }
@@ -406,17 +421,38 @@ fn over_of(
     over_from::<Brand>(alloc, problem, weights, over, limit, Blank::new(1))
 }
 
+fn weighs(found: &Over, weight: i64, line: &[u32]) -> bool {
+    match found {
+        Over::Line(priced) => priced.weight == weight && priced.line.pairings() == line,
+        Over::Nothing | Over::Limit => false,
+    }
+}
+
 #[test]
 fn finds_a_line_above_a_bound(rt: HostRuntime) -> Result<(), BestFault> {
     let alloc = rt.alloc();
     let problem = alone(alloc, tenth(alloc, 300)?, 0, 5400)?;
-    let (found, most) = over_of(alloc, &problem, &[5], 4, 100)?;
-    assert!(rt; matches!(found, Over::Line(PricedLine { weight: 5, .. })));
-    assert!(rt; is(&most, 5, &[0]));
-    let (found, _most) = over_of(alloc, &problem, &[5], 5, 0)?;
-    assert!(rt; found == Over::Nothing);
-    let (found, _most) = over_of(alloc, &problem, &[5], 4, 1)?;
-    assert!(rt; found == Over::Limit);
+    let lines = over_of(alloc, &problem, &[5], 4, 100)?;
+    assert!(rt; weighs(&lines.first, 5, &[0]) && weighs(&lines.heaviest, 5, &[0]));
+    assert!(rt; is(&lines.most, 5, &[0]));
+    let lines = over_of(alloc, &problem, &[5], 5, 0)?;
+    assert!(rt; lines.first == Over::Nothing && lines.heaviest == Over::Nothing);
+    let lines = over_of(alloc, &problem, &[5], 4, 1)?;
+    assert!(rt; lines.first == Over::Limit && lines.heaviest == Over::Limit);
+    Ok(())
+}
+
+#[test]
+fn finds_the_heaviest_line_above_a_bound(rt: HostRuntime) -> Result<(), BestFault> {
+    let alloc = rt.alloc();
+    let problem = alone(alloc, pairings(alloc, 3)?, 0, 5400)?;
+    let lines = over_of(alloc, &problem, &[1, -2, 3], 0, 1000)?;
+    assert!(rt; weighs(&lines.heaviest, 4, &[0, 2]));
+    assert!(rt; is(&lines.most, 4, &[0, 2]));
+    let lines = over_of(alloc, &problem, &[1, -2, 3], 4, 1000)?;
+    assert!(rt; lines.first == Over::Nothing && lines.heaviest == Over::Nothing);
+    let lines = over_of(alloc, &problem, &[1, -2, 3], 0, 3)?;
+    assert!(rt; lines.heaviest == Over::Limit);
     Ok(())
 }
 

@@ -1,4 +1,4 @@
-use Rattle.std.proofs.Common.{◌≡◌, ◌+◌, ◌<◌, vec_len}
+use Rattle.std.proofs.Common.{◌≡◌, ◌+◌, ◌<◌, ◌≤◌, length, vec_len}
 use Rattle.std.specs.Prelude.{IfSome}
 use Rattle.chain_search.specs.Bounds.{IsBound}
 use Rattle.chain_search.specs.Climbs.{IsAbove, raised_to}
@@ -12,6 +12,7 @@ invariant-loop-next g l = record {
   found : IfSome l.best (IsAbove g.R.Resource.extend g.R.Resource.done l.graph l.fn.above.over);
   raised : l.above.over ≡ raised_to l.best l.fn.above.over;
   wanted : 0 < l.wanted;
+  few : l.walk.left + length l.walk.waiting.items + l.chains ≤ l.limit + l.wanted;
   steps : l.steps + l.walk.left ≡ l.fn.steps + l.limit;
 }
 
