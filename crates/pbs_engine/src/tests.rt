@@ -2,7 +2,9 @@
 
 mod awards;
 mod certificates;
+mod cuts;
 mod faults;
+mod hostile;
 mod legality;
 mod made;
 mod months;
@@ -69,20 +71,18 @@ fn run_over(
     })
 }
 
-/// Runs these words over a month's files and further ones in their place. The calls of the shelf and of the sink with
-/// the numbers that are given beside them fail.
+/// Runs these words over a month's files and further ones in their place.
 fn outcome_of(
     rt: &impl Abort,
     alloc: Global,
     words: &[&str],
     month: &[(&str, &[u8])],
     changed: &[(&str, &[u8])],
-    failing: (&[u64], &[u64]),
 ) -> Result<Outcome, Fail> {
-    let mut shelf = MemoryShelf::new(alloc, List::from_vec(failing.0.to_vec(alloc)?));
+    let mut shelf = MemoryShelf::new(alloc, List::new(alloc));
     place_all(rt, alloc, &mut shelf, month)?;
     place_all(rt, alloc, &mut shelf, changed)?;
-    run_over(alloc, words, &mut shelf, failing.1)
+    run_over(alloc, words, &mut shelf, &[])
 }
 
 /// Says that a run ended so and printed this.
@@ -91,20 +91,25 @@ fn assert_ends(rt: &impl Abort, outcome: &Outcome, status: Status, text: &str) {
     assert_eq!(rt; outcome.status, status, "{text}");
 }
 
+/// Says that a run ended so, and how what it printed begins and ends.
+fn assert_frames(rt: &impl Abort, outcome: &Outcome, status: Status, (begins, ends): (&str, &str)) {
+    assert!(rt; outcome.text.starts_with(begins), "{}", outcome.text);
+    assert!(rt; outcome.text.ends_with(ends), "{}", outcome.text);
+    assert_eq!(rt; outcome.status, status);
+}
+
 /// Says how `award` ends over the inputs of the smallest month with these files in place of its own, how what it prints
 /// begins and ends, which reasons it wrote, and what `check` then prints of what it left.
 fn assert_awards(
     rt: &impl Abort,
     alloc: Global,
-    (month, words, failing, status, (begins, ends), reasons, checked): &Awarded,
+    (month, words, status, frame, reasons, checked): &Awarded,
 ) -> Result<(), Fail> {
-    let mut shelf = MemoryShelf::new(alloc, List::from_vec(failing.to_vec(alloc)?));
+    let mut shelf = MemoryShelf::new(alloc, List::new(alloc));
     place_all(rt, alloc, &mut shelf, &SMALLEST[..8])?;
     place_all(rt, alloc, &mut shelf, month)?;
     let outcome = run_over(alloc, words, &mut shelf, &[])?;
-    assert!(rt; outcome.text.starts_with(*begins), "{}", outcome.text);
-    assert!(rt; outcome.text.ends_with(*ends), "{}", outcome.text);
-    assert_eq!(rt; outcome.status, *status);
+    assert_frames(rt, &outcome, *status, *frame);
     if let Some(reasons) = reasons {
         assert_eq!(rt; shelf.file("reasons.txt"), Some(*reasons));
     }
@@ -129,7 +134,7 @@ fn assert_checks(
     status: Status,
     text: &str,
 ) -> Result<(), Fail> {
-    let outcome = outcome_of(rt, alloc, &["check"], &SMALLEST, changed, (&[], &[]))?;
+    let outcome = outcome_of(rt, alloc, &["check"], &SMALLEST, changed)?;
     assert_ends(rt, &outcome, status, text);
     Ok(())
 }
@@ -170,12 +175,15 @@ fn assert_cases(
     Ok(())
 }
 
-/// How a run ends that prints this of a certificate.
+/// How a run ends that prints this of a month.
 fn due_status(text: &str) -> Status {
-    match text.as_bytes() {
-        [b'y', ..] => Status::Done,
-        _ => Status::No,
+    if text.starts_with("yes") {
+        return Status::Done;
     }
+    if text.starts_with("bad") {
+        return Status::BadInput;
+    }
+    Status::No
 }
 
 #[test]
@@ -222,7 +230,6 @@ fn months_without_a_roster_are_judged(rt: HostRuntime) -> Result<(), Fail> {
             THREE_WANTED[1],
             ("certificate.txt", NO_ROSTER[0].0),
         ],
-        (&[], &[]),
     )?;
     assert_ends(&rt, &outcome, Status::Done, "yes none\n");
     Ok(())
@@ -272,6 +279,15 @@ fn lines_and_covers_are_judged(rt: HostRuntime) -> Result<(), Fail> {
     Ok(())
 }
 
+/// Appends the pieces of a row, with a word before each.
+fn put_row(text: &mut String, word: &str, pieces: &[&str]) -> Result<(), Fail> {
+    for piece in pieces {
+        text.push_str(word)?;
+        text.push_str(piece)?;
+    }
+    Ok(())
+}
+
 /// Appends flights of five hours on these days of a month.
 fn put_flights(
     alloc: Global,
@@ -281,10 +297,9 @@ fn put_flights(
     last: u32,
 ) -> Result<(), Fail> {
     for day in first..=last {
-        let row = format!(in alloc;
-            "M1,flight,{month}-{day:02}T08:00Z,{month}-{day:02}T14:00Z,{month}-{day:02}T14:30Z,{month}-{day:02}T08:30Z/{month}-{day:02}T13:30Z,0:00\n"
-        )?;
-        text.push_str(&row)?;
+        let day = format!(in alloc; "{month}-{day:02}")?;
+        text.push_str("M1,flight,")?;
+        put_row(text, &day, &FLIGHT)?;
     }
     Ok(())
 }
@@ -320,7 +335,6 @@ fn a_year_is_365_days(rt: HostRuntime) -> Result<(), Fail> {
         &["check"],
         &SMALLEST,
         &[changed[0], NINTH[0], NINTH[1], NINTH[2]],
-        (&[], &[]),
     )?;
     assert_ends(&rt, &outcome, Status::No, "no 1 1 7 373\n");
     Ok(())
@@ -343,7 +357,7 @@ fn assert_wish(
         ("bids.txt", bids.as_bytes()),
         ("roster.csv", roster.as_bytes()),
     ];
-    let outcome = outcome_of(rt, alloc, &["check"], &WISHES, &changed, (&[], &[]))?;
+    let outcome = outcome_of(rt, alloc, &["check"], &WISHES, &changed)?;
     assert_ends(rt, &outcome, Status::No, text);
     Ok(())
 }
@@ -359,29 +373,13 @@ fn wishes_are_granted(rt: HostRuntime) -> Result<(), Fail> {
 }
 
 #[test]
-fn files_are_read_in_order(rt: HostRuntime) -> Result<(), Fail> {
+fn a_missing_file_is_named(rt: HostRuntime) -> Result<(), Fail> {
     let alloc = rt.alloc();
     for (i, (name, _)) in SMALLEST.iter().enumerate() {
-        let missing = format!(in alloc; "missing {name}\n")?;
-        let failed = format!(in alloc; "read fault {name}\n")?;
-        let outcome = outcome_of(
-            &rt,
-            alloc,
-            &["check"],
-            &SMALLEST[..i],
-            &SMALLEST[i + 1..],
-            (&[], &[]),
-        )?;
-        assert_ends(&rt, &outcome, Status::Missing, &missing);
-        let outcome = outcome_of(
-            &rt,
-            alloc,
-            &["check"],
-            &SMALLEST,
-            &[],
-            (&[i as u64 + 1], &[]),
-        )?;
-        assert_ends(&rt, &outcome, Status::ReadFault, &failed);
+        let text = format!(in alloc; "missing {name}\n")?;
+        let (before, behind) = (&SMALLEST[..i], &SMALLEST[i + 1..]);
+        let outcome = outcome_of(&rt, alloc, &["check"], before, behind)?;
+        assert_ends(&rt, &outcome, Status::Missing, &text);
     }
     Ok(())
 }
@@ -402,11 +400,9 @@ fn a_long_file_is_named(rt: HostRuntime) -> Result<(), Fail> {
 #[test]
 fn words_are_a_command(rt: HostRuntime) -> Result<(), Fail> {
     for words in &NO_COMMANDS {
-        let outcome = outcome_of(&rt, rt.alloc(), words, &SMALLEST, &[], (&[], &[]))?;
+        let outcome = outcome_of(&rt, rt.alloc(), words, &SMALLEST, &[])?;
         assert_ends(&rt, &outcome, Status::Usage, USAGE);
     }
-    let outcome = outcome_of(&rt, rt.alloc(), &["check"], &SMALLEST, &[], (&[], &[1]))?;
-    assert_ends(&rt, &outcome, Status::WriteFault, "");
     Ok(())
 }
 

@@ -3,12 +3,11 @@
 use super::months::THREE_WANTED;
 use crate::status::Status;
 
-/// The files of a month in place of the smallest one's own, the words, the calls of the shelf that fail, the end, how what
-/// is printed begins and ends, the reasons where they are compared, and what `check` prints then.
+/// The files of a month in place of the smallest one's own, the words, the end, how what is printed begins and ends, the
+/// reasons where they are compared, and what `check` prints then.
 pub type Awarded = (
     &'static [(&'static str, &'static [u8])],
     &'static [&'static str],
-    &'static [u64],
     Status,
     (&'static str, &'static str),
     Option<&'static [u8]>,
@@ -107,12 +106,11 @@ pub const LEAVE: [(&str, &[u8]); 3] = [
     ("bids.txt", b"member M1\n10 off 2026-06-10\n"),
 ];
 
-/// Awards, budgets and faults.
-pub const AWARDED: [Awarded; 11] = [
+/// Awards, budgets, and no roster.
+pub const AWARDED: [Awarded; 7] = [
     (
         &TIE,
         &["award"],
-        &[],
         Status::Done,
         ("award\nvector 10 10\nnodes ", "\ndenials 0\n"),
         Some(b""),
@@ -121,7 +119,6 @@ pub const AWARDED: [Awarded; 11] = [
     (
         &RIVAL,
         &["award"],
-        &[],
         Status::Done,
         ("award\nvector 10 0\nnodes ", "\ndenials 1\n"),
         Some(b"M2 1 place 1 M1: 10 fly P1\n"),
@@ -130,7 +127,6 @@ pub const AWARDED: [Awarded; 11] = [
     (
         &LEAVE,
         &["award"],
-        &[],
         Status::Done,
         ("award\nvector 0 0\nnodes ", "\ndenials 1\n"),
         Some(b"M1 1 place 0: 10 off 2026-06-10\n"),
@@ -139,7 +135,6 @@ pub const AWARDED: [Awarded; 11] = [
     (
         &BRANCHING,
         &["award", "--nodes", "1"],
-        &[],
         Status::Budget,
         ("budget 1\n", "budget 1\n"),
         None,
@@ -148,7 +143,6 @@ pub const AWARDED: [Awarded; 11] = [
     (
         &BRANCHING,
         &["award", "--nodes", "20000"],
-        &[],
         Status::Done,
         ("award\nvector 10 0\nnodes ", "\ndenials 3\n"),
         None,
@@ -157,7 +151,6 @@ pub const AWARDED: [Awarded; 11] = [
     (
         &FOUR,
         &["award", "--nodes", "600"],
-        &[],
         Status::Done,
         ("award\nvector 10 0 0 0\nnodes ", "\ndenials 3\n"),
         Some(
@@ -168,49 +161,9 @@ pub const AWARDED: [Awarded; 11] = [
     (
         &THREE_WANTED,
         &["award"],
-        &[],
         Status::NoRoster,
         ("no roster\nnodes 0\n", "no roster\nnodes 0\n"),
         None,
         "yes none\n",
-    ),
-    (
-        &RIVAL,
-        &["award"],
-        &[5],
-        Status::ReadFault,
-        ("read fault crew.csv\n", "read fault crew.csv\n"),
-        None,
-        "missing certificate.txt\n",
-    ),
-    (
-        &RIVAL,
-        &["award"],
-        &[9],
-        Status::WriteFault,
-        (
-            "write fault certificate.txt\n",
-            "write fault certificate.txt\n",
-        ),
-        None,
-        "missing certificate.txt\n",
-    ),
-    (
-        &RIVAL,
-        &["award"],
-        &[10],
-        Status::WriteFault,
-        ("write fault reasons.txt\n", "write fault reasons.txt\n"),
-        None,
-        "missing roster.csv\n",
-    ),
-    (
-        &RIVAL,
-        &["award"],
-        &[11],
-        Status::WriteFault,
-        ("write fault roster.csv\n", "write fault roster.csv\n"),
-        Some(b"M2 1 place 1 M1: 10 fly P1\n"),
-        "missing roster.csv\n",
     ),
 ];

@@ -24,7 +24,7 @@ pub const ACCEPTED_LENSES: [Case; 4] = [
 ];
 
 /// Certificates of the smallest month with an item that is not accepted, by each of its faults.
-pub const REFUSED_ITEMS: [Case; 19] = [
+pub const REFUSED_ITEMS: [Case; 20] = [
     (
         b"pbs-certificate 1\naward 1 0\nproof 1\ncount 2\nend\n",
         "no 4 1 1 1\n",
@@ -101,10 +101,14 @@ pub const REFUSED_ITEMS: [Case; 19] = [
         b"pbs-certificate 1\naward 1 0\nproof 2\nnoline 1 60 0000000000000000 0 0\nnoline 1 60 0000000000000000 0 0\nend\n",
         "no 5 1\n",
     ),
+    (
+        b"pbs-certificate 1\naward 1 0\nproof 1\nsplit 1 1\nend\n",
+        "no 5 1\n",
+    ),
 ];
 
-/// Texts that are no certificates: weights beyond their limit and in a second spelling, and bytes behind the end.
-pub const MISSPELT: [Case; 10] = [
+/// Texts that are no certificates: numbers beyond their limit, weights in a second spelling, and bytes behind the end.
+pub const MISSPELT: [Case; 11] = [
     (
         b"pbs-certificate 1\naward 1 0\nproof 1\nweights 1 2147483648\nlens 60 0000000000000000 0 0\nend\n",
         "no certificate 4 6\n",
@@ -140,6 +144,10 @@ pub const MISSPELT: [Case; 10] = [
     (
         b"pbs-certificate 1\naward 1 1\nproof 0\nend\n",
         "no certificate 4 2\n",
+    ),
+    (
+        b"pbs-certificate 1\naward 1 0\nproof 40002\nend\n",
+        "no certificate 3 6\n",
     ),
     (b"shown\n", "no certificate 1 1\n"),
 ];

@@ -3,7 +3,7 @@
 use super::months::Row;
 
 /// Certificates that prove nothing and texts that are none.
-pub const REFUSED: [Row; 34] = [
+pub const REFUSED: [Row; 31] = [
     (
         "certificate.txt",
         b"pbs-certificate 1\naward 1 0\nproof 3\nsplit 1 1\ncount 1\nfixed 1\nend\n",
@@ -13,21 +13,6 @@ pub const REFUSED: [Row; 34] = [
         "certificate.txt",
         b"pbs-certificate 1\naward 1 0\nproof 1\nsplit 1 2\nend\n",
         "no 4 1 1 1\n",
-    ),
-    (
-        "certificate.txt",
-        b"pbs-certificate 1\naward 1 0\nproof 1\nsplit 2 1\nend\n",
-        "no 4 1 1 1\n",
-    ),
-    (
-        "certificate.txt",
-        b"pbs-certificate 1\naward 1 0\nproof 2\nsplit 1 1\nsplit 1 1\nend\n",
-        "no 4 1 2 2\n",
-    ),
-    (
-        "certificate.txt",
-        b"pbs-certificate 1\naward 1 0\nproof 1\nfixed 1\nend\n",
-        "no 4 1 1 4 1\n",
     ),
     (
         "certificate.txt",

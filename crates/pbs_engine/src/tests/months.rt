@@ -264,6 +264,15 @@ pub const INTERLEAVED: [(&str, &[u8]); 4] = [
     ),
 ];
 
+/// The row of a flight of five hours, where each piece comes behind its day.
+pub const FLIGHT: [&str; 5] = [
+    "T08:00Z,",
+    "T14:00Z,",
+    "T14:30Z,",
+    "T08:30Z/",
+    "T13:30Z,0:00\n",
+];
+
 /// The pairing is flown on June 9.
 pub const NINTH: [(&str, &[u8]); 3] = [
     ("pairings.csv", b"pairing,need,credit\nP1,1,5:00\n"),
