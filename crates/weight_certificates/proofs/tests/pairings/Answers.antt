@@ -1,4 +1,4 @@
-use Rattle.std.proofs.Common.{◌∙◌, arith}
+use Rattle.std.proofs.Common.{arith}
 use Rattle.weight_certificates.proofs.tests.pairings.Goals as goal
 
 pub loop-number-preserved : goal.loop-number-preserved
