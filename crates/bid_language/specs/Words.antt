@@ -10,16 +10,11 @@ use Rattle.bid_language.specs.declared.fault.BidCode.TheVariants as code
 use Rattle.bid_language.specs.declared.fault.LineFault.{LineFault}
 use Rattle.bid_language.specs.declared.fault.Stop.{Stop}
 use Rattle.bid_language.specs.declared.fault.Stop.TheVariants as stop
-use Rattle.bid_language.specs.declared.words.Spot.{Spot as Lent}
 
 -- a token, with the column of its first byte
 pub record Spot : Type 0 where
   pub column : ℕ
   pub text : List ℕ
-
--- the token that a reader is lent
-abbrev pub spot_seen : Lent → Spot
-spot_seen s = record { column = s.column; text = s.text.now }
 
 -- the tokens of a line that are still to be read, and the column behind the line's last byte
 pub record Rest : Type 0 where

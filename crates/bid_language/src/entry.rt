@@ -1,7 +1,8 @@
 //! Reading what a line says.
 ghost use Rattle.std.specs.Prelude.{◌≡◌, ◌<◌, ◌^◌, length, vec_len, IfOk};
 ghost use Rattle.std.specs.Option.{ForSome};
-ghost use Rattle.bid_language.specs.Words.{Reads, spot_seen};
+ghost use Rattle.bid_language.specs.Words.{Reads};
+ghost use Rattle.bid_language.specs.Spots.{spot_seen};
 ghost use Rattle.bid_language.specs.Lines.{known, unseen, member_line, bid_line, entry_of};
 ghost use Rattle.bid_language.specs.Sheets.{read_of, IsWithin};
 

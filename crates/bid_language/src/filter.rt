@@ -1,7 +1,8 @@
 //! Reading filters.
 ghost use Rattle.std.specs.Prelude.{◌≡◌, length, ◌<◌, ◌^◌, ◌++◌, ◌∷◌, [], OnOk, IfErr};
 ghost use Rattle.bid_language.specs.declared.fault.Stop.TheVariants.{NoMemory};
-ghost use Rattle.bid_language.specs.Words.{Reads, spot_seen};
+ghost use Rattle.bid_language.specs.Words.{Reads};
+ghost use Rattle.bid_language.specs.Spots.{spot_seen};
 ghost use Rattle.bid_language.specs.Grammar.{report_test, release_test, test_of, test_from, atom, begins_atom, too_many, follows, joined, filter};
 
 use crate::fault::{BidCode, Stop, Word};

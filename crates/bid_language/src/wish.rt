@@ -1,6 +1,7 @@
 //! Reading wishes and bids.
 ghost use Rattle.std.specs.Prelude.{◌≡◌, ◌<◌, ◌^◌, length};
-ghost use Rattle.bid_language.specs.Words.{Reads, spot_seen};
+ghost use Rattle.bid_language.specs.Words.{Reads};
+ghost use Rattle.bid_language.specs.Spots.{spot_seen};
 ghost use Rattle.bid_language.specs.Values.{bound};
 ghost use Rattle.bid_language.specs.Grammar.{credit_wish, wish_of, wish, weight, room, bid};
 

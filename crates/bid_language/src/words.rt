@@ -3,7 +3,7 @@ ghost use Rattle.std.specs.Prelude.{◌≡◌, ◌≤◌, ◌<◌, true, length,
 ghost use Rattle.std.specs.Option.{option_map};
 ghost use Rattle.std.specs.Str.{IsAscii};
 ghost use Rattle.field_text.specs.Sizes.{longest};
-ghost use Rattle.bid_language.specs.Words.{next, optional, finished, rest_of, are_within, spot_seen, Reads, ReadsAs};
+ghost use Rattle.bid_language.specs.Words.{next, optional, finished, rest_of, are_within, Reads, ReadsAs};
 ghost use Rattle.bid_language.specs.declared.fault.Stop.TheVariants.{Fault};
 
 use crate::fault::{BidCode, LineFault, Stop, Word};
@@ -65,7 +65,7 @@ impl<'a> Words<'a> {
 
     /// The next token, or the fault that one is missing.
     pub fn next(&mut self, word: Word) -> Result<Spot<'a>, Stop>
-        ensures reads { ReadsAs spot_seen result
+        ensures reads { ReadsAs (λ s. record { column = s.column; text = s.text.now }) result
             (next word) self.old self.new }
     {
         let Some((token, rest)) = self.tokens.split_first() else {
@@ -85,7 +85,10 @@ impl<'a> Words<'a> {
     /// The next token, if there is one.
     pub fn optional(&mut self) -> Option<Spot<'a>>
         ensures reads { optional self.old
-            ≡ Ok (option_map spot_seen result, self.new) }
+            ≡ Ok (
+              option_map (λ s. record { column = s.column; text = s.text.now }) result,
+              self.new,
+            ) }
     {
         let Some((token, rest)) = self.tokens.split_first() else {
             return None;

@@ -14,7 +14,7 @@ use Rattle.duty_calendar.specs.declared.event.Kind.TheVariants.{Flight, Ground, 
 use Rattle.duty_calendar.specs.declared.horizon.Horizon.{Horizon}
 use Rattle.duty_calendar.specs.declared.member.Member.{Member}
 use Rattle.field_text.specs.declared.file_fault.FileCode.{FileCode}
-use Rattle.field_text.specs.Fields.{name, minutes, minutes_value, kind_field}
+use Rattle.field_text.specs.Fields.{name, minutes, minutes_value}
 use Rattle.field_text.specs.Rows.{in_column}
 use Rattle.field_text.specs.Spelling.{minutes_text, kind_text}
 use Rattle.field_text.specs.Steps.{◌>>=◌, or_fault}

@@ -1,5 +1,5 @@
 -- Reading the rows of a roster's text from left to right.
-use Rattle.std.specs.Prelude.{ℕ, zero, suc, ◌+◌, List, [], ◌∷◌, length, Option, Some, None, Result, Ok, Err, Bool, false, ◌==◌, if◌then◌else◌}
+use Rattle.std.specs.Prelude.{ℕ, zero, suc, ◌+◌, List, [], ◌∷◌, length, Option, Result, Ok, Err, Bool, false, ◌==◌, if◌then◌else◌}
 use Rattle.field_text.specs.Gives.{GivesUnless}
 use Rattle.field_text.specs.Steps.{◌>>=◌, or_fault}
 use Rattle.roster_model.specs.declared.problem.Problem.{Problem}
