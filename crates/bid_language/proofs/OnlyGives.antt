@@ -11,7 +11,7 @@ use Rattle.duty_calendar.specs.declared.pairing.Pairing.{Pairing}
 use Rattle.duty_calendar.specs.Calendar.{day_zero, month_days}
 use Rattle.duty_calendar.specs.Forms.{is_station_code}
 use Rattle.field_text.specs.declared.field_fault.FieldFault.{FieldFault}
-use Rattle.field_text.specs.Fields.{number_field, clock_field, minutes_field, day_field}
+use Rattle.field_text.specs.Fields.{number_field, clock_field, minutes_field, day_field, station_of}
 use Rattle.roster_model.specs.declared.bid.Test.{Test}
 use Rattle.roster_model.specs.declared.bid.Atom.{Atom}
 use Rattle.roster_model.specs.declared.bid.Wish.{Wish}
@@ -33,7 +33,7 @@ use Rattle.bid_language.specs.declared.keywords.TestKind.TheVariants as test
 use Rattle.bid_language.proofs.FieldBounds.{clock_field-bound, minutes_field-bound}
 use Rattle.bid_language.specs.Keywords.{is_text, test_kind_of, kind_of}
 use Rattle.bid_language.specs.Words.{Spot, Rest, Reader, ◌>>=◌, and_then, done, wrong, or_wrong, next, optional, finished}
-use Rattle.bid_language.specs.Values.{value_of, value_in, number, clock, minutes, pairing, pairing_named, station_of, station, weekday, side, bound}
+use Rattle.bid_language.specs.Values.{value_of, value_in, number, clock, minutes, pairing, pairing_named, station, weekday, side, bound}
 use Rattle.bid_language.specs.Days.{one_of, day_in, day, not_before, later_day, last_day_of, last_day}
 use Rattle.bid_language.specs.Grammar.{report_test, release_test, test_of, test_from, atom_from, atom, begins_atom, too_many, follows, joined, atoms, filter, credit_wish, wish_of, wish, weight_of, weight, room, bid}
 

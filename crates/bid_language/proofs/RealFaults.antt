@@ -6,7 +6,7 @@ use Rattle.duty_calendar.specs.declared.member.Base.{Base}
 use Rattle.duty_calendar.specs.declared.pairing.Pairing.{Pairing}
 use Rattle.duty_calendar.specs.Forms.{is_name}
 use Rattle.field_text.specs.declared.field_fault.FieldFault.{FieldFault}
-use Rattle.field_text.specs.Fields.{number_field, clock_field, minutes_field, day_field}
+use Rattle.field_text.specs.Fields.{number_field, clock_field, minutes_field, day_field, station_of}
 use Rattle.bid_language.specs.declared.fault.BidCode.{BidCode}
 use Rattle.bid_language.specs.declared.fault.BidCode.TheVariants as code
 use Rattle.bid_language.specs.declared.fault.Word.{Word}
@@ -18,7 +18,7 @@ use Rattle.bid_language.specs.declared.keywords.TestKind.{TestKind}
 use Rattle.bid_language.specs.declared.keywords.TestKind.TheVariants as test
 use Rattle.bid_language.specs.Keywords.{is_text, test_kind_of, kind_of, weekday_of, side_of, bound_of}
 use Rattle.bid_language.specs.Words.{Spot, Rest, Reader, ◌>>=◌, and_then, done, wrong, or_wrong, next, optional, finished}
-use Rattle.bid_language.specs.Values.{value_of, value_in, number, clock, minutes, pairing, pairing_named, station_of, station, weekday, side, bound}
+use Rattle.bid_language.specs.Values.{value_of, value_in, number, clock, minutes, pairing, pairing_named, station, weekday, side, bound}
 use Rattle.bid_language.specs.Days.{day_in, day, not_before, later_day, last_day_of, last_day}
 use Rattle.bid_language.specs.Grammar.{test_of, test_from, atom_from, atom, begins_atom, too_many, follows_of, follows, joined, atoms, wish_of, wish, weight_of, weight, room, bid}
 use Rattle.bid_language.specs.Lines.{Read, known, member_named, member_line, bid_line, entry_from, entry_of}

@@ -12,7 +12,7 @@ use Rattle.duty_calendar.specs.declared.weekday.Weekday.{Weekday}
 use Rattle.duty_calendar.specs.declared.weekday.Weekday.TheVariants.{Mon, Tue, Wed, Thu, Fri, Sat, Sun}
 use Rattle.duty_calendar.specs.Calendar.{month_days}
 use Rattle.duty_calendar.specs.Forms.{is_name}
-use Rattle.field_text.specs.Fields.{number_field, clock_field, minutes_field, day_field}
+use Rattle.field_text.specs.Fields.{number_field, clock_field, minutes_field, day_field, station_of}
 use Rattle.field_text.specs.Spelling.{number_text, clock_text, minutes_text}
 use Rattle.field_text.specs.declared.field_fault.FieldFault.{FieldFault}
 use Rattle.field_text.proofs.Again.{number-again, minutes-again}
@@ -36,7 +36,7 @@ use Rattle.bid_language.specs.declared.keywords.TestKind.{TestKind}
 use Rattle.bid_language.specs.declared.keywords.TestKind.TheVariants as test
 use Rattle.bid_language.specs.Keywords.{is_text, kind_of, test_kind_of, side_of, bound_of, weekday_of}
 use Rattle.bid_language.specs.Words.{Spot, Reader, ◌>>=◌, done, or_wrong, next, optional, finished}
-use Rattle.bid_language.specs.Values.{value_of, value_in, number, clock, minutes, pairing, pairing_named, station, station_of, weekday, side, bound}
+use Rattle.bid_language.specs.Values.{value_of, value_in, number, clock, minutes, pairing, pairing_named, station, weekday, side, bound}
 use Rattle.bid_language.specs.Days.{day_in, day, not_before, later_day, last_day}
 use Rattle.bid_language.specs.Grammar.{report_test, release_test, test_of, test_from, atom_from, atom, follows, joined, atoms, filter, credit_wish, wish_of, wish, weight, room, bid}
 use Rattle.bid_language.specs.Spelling.{weekday_word, name_of, day_word}

@@ -1,5 +1,6 @@
 pub mod Codes
 pub mod Words
+pub mod Spots
 pub mod Keywords
 pub mod Values
 pub mod Days

@@ -2,8 +2,8 @@
 use Rattle.std.specs.Prelude.{ℕ, ◌&&◌, nat_le, List, position, Option, Some, None, Result, Ok, Err, if◌then◌else◌}
 use Rattle.duty_calendar.specs.declared.pairing.Pairing.{Pairing}
 use Rattle.duty_calendar.specs.declared.weekday.Weekday.{Weekday}
-use Rattle.duty_calendar.specs.Forms.{is_name, is_station_code}
-use Rattle.field_text.specs.Fields.{number_field, minutes_field, clock_field}
+use Rattle.duty_calendar.specs.Forms.{is_name}
+use Rattle.field_text.specs.Fields.{number_field, minutes_field, clock_field, station_of}
 use Rattle.field_text.specs.declared.field_fault.FieldFault.{FieldFault}
 use Rattle.bid_language.specs.declared.fault.Word.TheVariants as word
 use Rattle.bid_language.specs.declared.fault.BidCode.TheVariants as code
@@ -47,9 +47,6 @@ pairing pairings = do
       else wrong s (code.Expected word.Name)
 
 -- three capitals
-abbrev pub station_of : List ℕ → Option (List ℕ)
-station_of text = if is_station_code text then Some text else None
-
 unfoldable pub station : Reader (List ℕ)
 station = do
   s ← next word.Station

@@ -2,6 +2,7 @@
 ghost use Rattle.std.specs.Prelude.{◌≡◌, ◌<◌, ◌^◌, length, vec_len, IfOk};
 ghost use Rattle.std.specs.Option.{ForSome};
 ghost use Rattle.bid_language.specs.Words.{Reads};
+ghost use Rattle.bid_language.specs.Spots.{spot_seen};
 ghost use Rattle.bid_language.specs.Lines.{known, unseen, member_line, bid_line, entry_of};
 ghost use Rattle.bid_language.specs.Sheets.{read_of, IsWithin};
 
@@ -18,7 +19,7 @@ use std::alloc::Global;
 fn known(spot: &Spot, found: Option<usize>, words: &mut Words) -> Result<u32, Stop>
     requires small { ForSome found (λ m. m < 2 ^ 32) }
     ensures reads { Reads result
-        (known (record { column = spot.now.column; text = spot.now.text.now }) found)
+        (known (spot_seen spot.now) found)
         words.old words.new }
 {
     if Name::new(spot.text).is_none() {
@@ -34,7 +35,7 @@ fn known(spot: &Spot, found: Option<usize>, words: &mut Words) -> Result<u32, St
 fn unseen(spot: &Spot, seen: &[bool], m: u32, words: &mut Words) -> Result<Entry, Stop>
     requires known { m < length seen.now }
     ensures reads { Reads result (unseen
-        (record { column = spot.now.column; text = spot.now.text.now }) seen.now m)
+        (spot_seen spot.now) seen.now m)
         words.old words.new }
     ensures within { IfOk result (IsWithin (length seen.now)) }
 {
@@ -72,7 +73,7 @@ fn bid_line(
 ) -> Result<Entry, Stop>
     requires few { length base.now.pairings < 2 ^ 32 }
     ensures reads { Reads result (bid_line base.now (read_of sheet.now)
-        (record { column = spot.now.column; text = spot.now.text.now }) sheet.now.current)
+        (spot_seen spot.now) sheet.now.current)
         words.old words.new }
     ensures within { IfOk result (IsWithin (vec_len sheet.now.lists)) }
 {

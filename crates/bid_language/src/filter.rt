@@ -2,6 +2,7 @@
 ghost use Rattle.std.specs.Prelude.{◌≡◌, length, ◌<◌, ◌^◌, ◌++◌, ◌∷◌, [], OnOk, IfErr};
 ghost use Rattle.bid_language.specs.declared.fault.Stop.TheVariants.{NoMemory};
 ghost use Rattle.bid_language.specs.Words.{Reads};
+ghost use Rattle.bid_language.specs.Spots.{spot_seen};
 ghost use Rattle.bid_language.specs.Grammar.{report_test, release_test, test_of, test_from, atom, begins_atom, too_many, follows, joined, filter};
 
 use crate::fault::{BidCode, Stop, Word};
@@ -61,7 +62,7 @@ fn test_of(pairings: &[Pairing], kind: TestKind, words: &mut Words) -> Result<Te
 fn test_from(pairings: &[Pairing], spot: &Spot, words: &mut Words) -> Result<Test, Stop>
     requires few { length pairings.now < 2 ^ 32 }
     ensures reads { Reads result (test_from pairings.now
-        (record { column = spot.now.column; text = spot.now.text.now })) words.old words.new }
+        (spot_seen spot.now)) words.old words.new }
 {
     match test_kind_of(spot.text) {
         Some(kind) => test_of(pairings, kind, words),

@@ -1,20 +1,8 @@
 //! The lines of a text.
-ghost use Rattle.std.specs.Prelude.{◌≡◌, ◌≢◌, ℕ, ◌≤◌, ◌<◌, ◌+◌, ◌∷◌, length, slice_index, take};
+ghost use Rattle.std.specs.Prelude.{◌≡◌, ◌≤◌, ◌<◌, ◌∷◌, length};
 ghost use Rattle.bid_language.specs.Lines.{lines_of, before_comment, without_return};
 
-/// The first place of the byte, or the length where there is none.
-fn find(text: &[u8], byte: u8) -> usize
-    ensures within { result ≤ length text.now }
-    ensures before { (k : ℕ) → k < result → slice_index text.now k ≢ byte }
-    ensures found { result < length text.now → slice_index text.now result ≡ byte }
-{
-    for (i, b) in text.iter().enumerate() {
-        if *b == byte {
-            return i;
-        }
-    }
-    text.len()
-}
+use field_text::place_of;
 
 /// The line without a carriage return at its end.
 fn without_return(line: &[u8]) -> &[u8]
@@ -36,7 +24,7 @@ pub fn next_line(text: &[u8]) -> (&[u8], &[u8])
     ensures shorter { length result.1.now < length text.now }
     ensures short { length result.0.now ≤ length text.now }
 {
-    let end = find(text, b'\n');
+    let end = place_of(b'\n', text);
     if end == text.len() {
         return (text, &[]);
     }
@@ -48,5 +36,5 @@ pub fn before_comment(line: &[u8]) -> &[u8]
     ensures value { result.now ≡ before_comment line.now }
     ensures short { length result.now ≤ length line.now }
 {
-    &line[..find(line, b'#')]
+    &line[..place_of(b'#', line)]
 }

@@ -11,8 +11,9 @@ use duty_calendar::{Base, Horizon, List, Memory, Pairing, Station, Weekday};
 use field_text::{put_bytes, put_number};
 use roster_model::{Atom, Bid, Test, Wish};
 
-fn weekday_word(weekday: Weekday) -> &'static [u8]
-    ensures word { result.now ≡ weekday_word weekday }
+/// The three letters of a day of the week.
+pub fn weekday_word(weekday: Weekday) -> &'static [u8]
+    ensures value { result.now ≡ weekday_word weekday }
 {
     match weekday {
         Weekday::Mon => b"MON",

@@ -2,13 +2,13 @@
 ghost use Rattle.std.specs.Prelude.{◌≡◌, length, ◌<◌, ◌^◌};
 ghost use Rattle.field_text.specs.Fields.{number_field, minutes_field, clock_field};
 ghost use Rattle.bid_language.specs.Words.{Reads};
-ghost use Rattle.bid_language.specs.Values.{value_in, value_of, number, clock, minutes, pairing, pairing_named, station_of, station, weekday, side};
+ghost use Rattle.bid_language.specs.Values.{value_in, value_of, number, clock, minutes, pairing, pairing_named, station, weekday, side};
 
 use crate::fault::{BidCode, Stop, Word};
 use crate::keywords::{Side, is_text, side_of, weekday_of};
 use crate::words::{Spot, Words};
 use duty_calendar::{Name, Pairing, Station, Weekday};
-use field_text::{read_clock, read_minutes, read_number};
+use field_text::{read_clock, read_minutes, read_number, station_of};
 use std::str::from_utf8;
 
 /// The text of a token.
@@ -88,15 +88,6 @@ pub fn pairing(pairings: &[Pairing], words: &mut Words) -> Result<u32, Stop>
         Some(number) => Ok(number as u32),
         None => Err(spot.wrong(BidCode::UnknownPairing)),
     }
-}
-
-fn station_of(text: &[u8]) -> Option<Station>
-    ensures value { result ≡ station_of text.now }
-{
-    if text.len() != 3 {
-        return None;
-    }
-    Station::new([text[0], text[1], text[2]])
 }
 
 /// A station.

@@ -1,6 +1,7 @@
 //! Reading wishes and bids.
 ghost use Rattle.std.specs.Prelude.{◌≡◌, ◌<◌, ◌^◌, length};
 ghost use Rattle.bid_language.specs.Words.{Reads};
+ghost use Rattle.bid_language.specs.Spots.{spot_seen};
 ghost use Rattle.bid_language.specs.Values.{bound};
 ghost use Rattle.bid_language.specs.Grammar.{credit_wish, wish_of, wish, weight, room, bid};
 
@@ -80,7 +81,7 @@ fn wish(alloc: Global, base: &Base, words: &mut Words) -> Result<Wish, Stop>
 #[tactic(auto, unfolding(crate::specs::Grammar::weight))]
 fn weight(spot: &Spot, words: &mut Words) -> Result<u32, Stop>
     ensures reads { Reads result (weight
-        (record { column = spot.now.column; text = spot.now.text.now })) words.old words.new }
+        (spot_seen spot.now)) words.old words.new }
 {
     match read_number(text_of(spot)) {
         Ok(weight) => {
@@ -119,7 +120,7 @@ pub fn bid(
 ) -> Result<Bid, Stop>
     requires few { length base.now.pairings < 2 ^ 32 }
     ensures reads { Reads result (bid base.now count
-        (record { column = spot.now.column; text = spot.now.text.now })) words.old words.new }
+        (spot_seen spot.now)) words.old words.new }
 {
     let weight = weight(spot, words)?;
     room(count, words)?;

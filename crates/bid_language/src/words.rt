@@ -85,7 +85,10 @@ impl<'a> Words<'a> {
     /// The next token, if there is one.
     pub fn optional(&mut self) -> Option<Spot<'a>>
         ensures reads { optional self.old
-            ≡ Ok (option_map (λ s. record { column = s.column; text = s.text.now }) result, self.new) }
+            ≡ Ok (
+              option_map (λ s. record { column = s.column; text = s.text.now }) result,
+              self.new,
+            ) }
     {
         let Some((token, rest)) = self.tokens.split_first() else {
             return None;

@@ -61,8 +61,8 @@ fn date_of(horizon: &Horizon, day: u32) -> Date
     Date::from_plain(civil::Date::constrain(horizon.year, horizon.month, (day - 364) as u8))
 }
 
-/// Appends a day of the month.
-fn put_date(out: &mut List<u8>, horizon: &Horizon, day: u32) -> Result<(), Memory>
+/// Appends a day of the month, or a part of it from its begin where memory ends.
+pub fn put_date(out: &mut List<u8>, horizon: &Horizon, day: u32) -> Result<(), Memory>
     requires first { 365 ≤ day }
     requires last { day < 365 + month_days horizon.now }
     ensures whole { OnOk result (out.new ≡ out.old ++ day_word horizon.now day) }

@@ -6,7 +6,7 @@ use Rattle.std.proofs.lemmas.Bool.{cases_lt}
 use Rattle.std.proofs.lemmas.Int.{ints, to_z-of_z, fits_signed_from_abs}
 use Rattle.std.proofs.Math.IntN.{negsuc}
 use Rattle.std.specs.Int.Signed.{lt_z}
-use Rattle.std.proofs.lemmas.List.{ext_get_or, get_or_past}
+use Rattle.std.proofs.lemmas.List.{ext_get_or}
 use Rattle.std.proofs.lemmas.Option.{slice_get-get_or, slice_get_cases, slice_get_within}
 use Rattle.duty_calendar.specs.declared.pairing.Pairing.{Pairing}
 use Rattle.roster_model.specs.declared.problem.Problem.{Problem}
@@ -15,7 +15,7 @@ use Rattle.roster_model.specs.declared.node.Decision.{Decision}
 use Rattle.roster_model.specs.declared.proof.Lens.{Lens}
 use Rattle.roster_model.specs.Lenses.{IsLens, IsLensLine, IsBestWeight, HasNoLine, AreLenses, AreBestWeights}
 use Rattle.roster_model.specs.Rosters.{need_of}
-use Rattle.roster_model.specs.Weights.{AreSmallWeights, IsSmallWeight, weight_at, weight_of, sum_below, needed_weight, total}
+use Rattle.roster_model.specs.Weights.{AreSmallWeights, weight_at, weight_of, sum_below, needed_weight, total}
 use Rattle.roster_model.proofs.Bounds.{ascending-length}
 use Rattle.line_generator.proofs.LineWeights.{small_at, weight_within}
 use Rattle.cert_checker.specs.declared.refusal.ItemFault.TheVariants as fault

@@ -16,7 +16,8 @@ abbrev pub IsWithin : ℕ → ℤ → Type 0
 IsWithin bound z = (neg_ℤ (pos bound) ≤ℤ z) × (z ≤ℤ pos bound)
 
 -- so many best lines, one for each of the first members' lenses, weigh so much together
-pub record WeighTogether (problem : Problem) (goal : Goal) (node : List Decision) (weights : List ℤ) (lenses : List Lens) (count : ℕ) (sum : ℤ) : Type 0 where
+pub record WeighTogether (problem : Problem) (goal : Goal) (node : List Decision)
+    (weights : List ℤ) (lenses : List Lens) (count : ℕ) (sum : ℤ) : Type 0 where
   pub bests : List ℤ
   pub each : length bests ≡ count
   pub best : AreBestWeights problem goal node weights lenses bests
@@ -24,7 +25,8 @@ pub record WeighTogether (problem : Problem) (goal : Goal) (node : List Decision
 
 -- the best lines, one for each lens, weigh so much together
 abbrev pub LinesWeigh : Problem → Goal → List Decision → List ℤ → List Lens → ℤ → Type 0
-LinesWeigh problem goal node weights lenses = WeighTogether problem goal node weights lenses (length lenses)
+LinesWeigh problem goal node weights lenses =
+    WeighTogether problem goal node weights lenses (length lenses)
 
 -- the lens of the member has not its shape
 abbrev pub IsShapeFault : Problem → ℕ → Lens → ItemFault → Type 0
@@ -33,7 +35,8 @@ IsShapeFault problem member lens fault.Decided = ⊥
 IsShapeFault problem member lens fault.Covered = ⊥
 IsShapeFault problem member lens (fault.Undecided q) = ⊥
 IsShapeFault problem member lens fault.Fits = ⊥
-IsShapeFault problem member lens (fault.Lens k why) = (k ≡ member) × IsLensFault problem member lens why
+IsShapeFault problem member lens (fault.Lens k why) =
+    (k ≡ member) × IsLensFault problem member lens why
 IsShapeFault problem member lens (fault.Line k) = ⊥
 IsShapeFault problem member lens (fault.Nothing k) = ⊥
 IsShapeFault problem member lens (fault.Sum lines needs) = ⊥
@@ -48,7 +51,8 @@ IsNothingFault problem goal node member lens (fault.Undecided q) = ⊥
 IsNothingFault problem goal node member lens fault.Fits = ⊥
 IsNothingFault problem goal node member lens (fault.Lens k why) = ⊥
 IsNothingFault problem goal node member lens (fault.Line k) = ⊥
-IsNothingFault problem goal node member lens (fault.Nothing k) = (k ≡ member) × HasNoLine problem member goal node lens
+IsNothingFault problem goal node member lens (fault.Nothing k) =
+    (k ≡ member) × HasNoLine problem member goal node lens
 IsNothingFault problem goal node member lens (fault.Sum lines needs) = ⊥
 IsNothingFault problem goal node member lens (fault.Width w l) = ⊥
 
@@ -61,6 +65,7 @@ IsLinelessFault problem goal node lenses (fault.Undecided q) = ⊥
 IsLinelessFault problem goal node lenses fault.Fits = ⊥
 IsLinelessFault problem goal node lenses (fault.Lens k why) = ⊥
 IsLinelessFault problem goal node lenses (fault.Line k) = ⊥
-IsLinelessFault problem goal node lenses (fault.Nothing k) = IsFirstLineless problem goal node lenses k
+IsLinelessFault problem goal node lenses (fault.Nothing k) =
+    IsFirstLineless problem goal node lenses k
 IsLinelessFault problem goal node lenses (fault.Sum lines needs) = ⊥
 IsLinelessFault problem goal node lenses (fault.Width w l) = ⊥

@@ -23,27 +23,24 @@ use Rattle.cert_checker.specs.declared.refusal.StepFault.{StepFault}
 use Rattle.cert_checker.specs.declared.refusal.StepFault.TheVariants as step
 
 -- a pair of the problem that the node decides already
-pub record IsDecidedPair (problem : Problem) (node : List Decision) (member pairing : ℕ) : Type 0 where
+pub record IsDecidedPair (problem : Problem) (node : List Decision)
+    (member pairing : ℕ) : Type 0 where
   pub member_in_range : member < length problem.base.members
   pub pairing_in_range : pairing < length problem.base.pairings
   pub decided : is_decided node member pairing ≡ true
 
--- a pairing with no more members decided to fly it than needed, and no fewer left for it than needed
+-- a pairing with no more members decided to fly it than needed, and no fewer left for it
 pub record IsCoverable (problem : Problem) (node : List Decision) (pairing : ℕ) : Type 0 where
   pub in_range : pairing < length problem.base.pairings
   pub not_more : decided_crew problem node pairing ≤ need_of problem pairing
   pub not_fewer : need_of problem pairing ≤ possible_crew problem node pairing
 
 -- the first pairing that is not decided for the member
-pub record IsFirstUndecided (problem : Problem) (node : List Decision) (member pairing : ℕ) : Type 0 where
+pub record IsFirstUndecided (problem : Problem) (node : List Decision)
+    (member pairing : ℕ) : Type 0 where
   pub in_range : pairing < length problem.base.pairings
   pub undecided : is_decided node member pairing ≡ false
   pub before : (p : ℕ) → p < pairing → is_decided node member p ≡ true
-
--- the first such pairing, if there is one
-abbrev pub FindsUndecided : Problem → List Decision → ℕ → Option ℕ → Type 0
-FindsUndecided problem node member found =
-    MatchOption found (IsDecidedLine problem node member) (IsFirstUndecided problem node member)
 
 -- the line is legal and meets the goal
 pub record Serves (problem : Problem) (goal : Goal) (member : ℕ) (line : List ℕ) : Type 0 where
@@ -60,7 +57,8 @@ IsBidMet problem goal member line =
     ForSome goal.grant (λ b. b.member ≡ member → is_granted problem member b.bid line ≡ true)
 
 -- the lens has its shape, and a line of the member passes it
-pub record HasLine (problem : Problem) (goal : Goal) (node : List Decision) (member : ℕ) (lens : Lens) : Type 0 where
+pub record HasLine (problem : Problem) (goal : Goal) (node : List Decision) (member : ℕ)
+    (lens : Lens) : Type 0 where
   pub shape : IsLens problem member lens
   pub line : List ℕ
   pub passes : IsLensLine problem member goal node lens line
@@ -71,18 +69,22 @@ pub record AreWide (problem : Problem) (weights : List ℤ) (lenses : List Lens)
   pub per_member : length lenses ≡ length problem.base.members
 
 -- so many weights and so many lenses, of which one number is wrong
-pub record IsWrongWidth (problem : Problem) (weights : List ℤ) (lenses : List Lens) (found_weights found_lenses : ℕ) : Type 0 where
+pub record IsWrongWidth (problem : Problem) (weights : List ℤ) (lenses : List Lens)
+    (found_weights found_lenses : ℕ) : Type 0 where
   pub weights_are : found_weights ≡ length weights
   pub lenses_are : found_lenses ≡ length lenses
   pub wrong :
       (found_weights ≢ length problem.base.pairings) ⊎ (found_lenses ≢ length problem.base.members)
 
 -- the first member whose lens has not its shape
-pub record IsFirstMisshapen (problem : Problem) (lenses : List Lens) (member : ℕ) (why : LensFault) : Type 0 where
+pub record IsFirstMisshapen (problem : Problem) (lenses : List Lens) (member : ℕ)
+    (why : LensFault) : Type 0 where
   pub lens : Lens
   pub here : slice_get lenses member ≡ Some lens
   pub fault : IsLensFault problem member lens why
-  pub before : (m : ℕ) (other : Lens) → m < member → slice_get lenses m ≡ Some other → IsLens problem m other
+  pub before :
+      (m : ℕ) (other : Lens) → m < member → slice_get lenses m ≡ Some other
+      → IsLens problem m other
 
 -- the first such member and the lens's fault, if there is one
 abbrev pub FindsMisshapen : Problem → List Lens → Option (ℕ × LensFault) → Type 0
@@ -90,15 +92,18 @@ FindsMisshapen problem lenses found =
     MatchOption found (AreLenses problem lenses) (λ f. IsFirstMisshapen problem lenses f.0 f.1)
 
 -- the first member of whom no line passes the lens
-pub record IsFirstLineless (problem : Problem) (goal : Goal) (node : List Decision) (lenses : List Lens) (member : ℕ) : Type 0 where
+pub record IsFirstLineless (problem : Problem) (goal : Goal) (node : List Decision)
+    (lenses : List Lens) (member : ℕ) : Type 0 where
   pub lens : Lens
   pub here : slice_get lenses member ≡ Some lens
   pub none : HasNoLine problem member goal node lens
   pub before :
-      (m : ℕ) (other : Lens) → m < member → slice_get lenses m ≡ Some other → HasLine problem goal node m other
+      (m : ℕ) (other : Lens) → m < member → slice_get lenses m ≡ Some other
+      → HasLine problem goal node m other
 
 -- the best lines weigh so much together, and the needs no more
-pub record IsHeavyEnough (problem : Problem) (goal : Goal) (node : List Decision) (weights : List ℤ) (lenses : List Lens) (lines needs : ℤ) : Type 0 where
+pub record IsHeavyEnough (problem : Problem) (goal : Goal) (node : List Decision)
+    (weights : List ℤ) (lenses : List Lens) (lines needs : ℤ) : Type 0 where
   pub bests : List ℤ
   pub each : length bests ≡ length problem.base.members
   pub best : AreBestWeights problem goal node weights lenses bests
@@ -171,11 +176,13 @@ WeightsFails problem goal node weights lenses (fault.Lens k lens_why) =
     AreWide problem weights lenses × IsFirstMisshapen problem lenses k lens_why
 WeightsFails problem goal node weights lenses (fault.Line k) = ⊥
 WeightsFails problem goal node weights lenses (fault.Nothing k) =
-    AreWide problem weights lenses × AreLenses problem lenses × IsFirstLineless problem goal node lenses k
+    AreWide problem weights lenses × AreLenses problem lenses
+    × IsFirstLineless problem goal node lenses k
 WeightsFails problem goal node weights lenses (fault.Sum lines needs) =
     AreWide problem weights lenses × AreLenses problem lenses
     × IsHeavyEnough problem goal node weights lenses lines needs
-WeightsFails problem goal node weights lenses (fault.Width w l) = IsWrongWidth problem weights lenses w l
+WeightsFails problem goal node weights lenses (fault.Width w l) =
+    IsWrongWidth problem weights lenses w l
 
 -- the fault of an item
 abbrev pub Fails : Problem → Goal → List Decision → Item → ItemFault → Type 0

@@ -31,12 +31,15 @@ pub record IsPlacedPast (members : ℕ) (reasons : List Denial) (bid : BidRef) :
   pub is : denial.bid ≡ bid
   pub past : members < place_of denial.cause
 
--- what is wrong with the reasons at a bid, where there are so many members and the bid is granted or not
-pub data IsMislisted (members : ℕ) (granted : Bool) (reasons : List Denial) (bid : BidRef) : Type 0 where
+-- what is wrong with the reasons at a bid, where there are so many members and the bid is granted
+-- or not
+pub data IsMislisted (members : ℕ) (granted : Bool) (reasons : List Denial)
+    (bid : BidRef) : Type 0 where
   misplaced : IsMisplaced reasons bid → IsMislisted members granted reasons bid
   past_last : IsPlacedPast members reasons bid → IsMislisted members granted reasons bid
   granted_listed : granted ≡ true → IsListed reasons bid → IsMislisted members granted reasons bid
-  denied_missing : granted ≡ false → (IsListed reasons bid → ⊥) → IsMislisted members granted reasons bid
+  denied_missing :
+      granted ≡ false → (IsListed reasons bid → ⊥) → IsMislisted members granted reasons bid
 
 -- the same in a roster
 abbrev pub IsMislistedIn : Problem → List (List ℕ) → List Denial → BidRef → Type 0
@@ -49,11 +52,13 @@ IsRightList problem roster reasons =
     (bid : BidRef) → IsBidOf problem bid → IsMislistedIn problem roster reasons bid → ⊥
 
 -- the first bid at which something is wrong
-pub record IsFirstMislisted (problem : Problem) (roster : List (List ℕ)) (reasons : List Denial) (bid : BidRef) : Type 0 where
+pub record IsFirstMislisted (problem : Problem) (roster : List (List ℕ)) (reasons : List Denial)
+    (bid : BidRef) : Type 0 where
   pub known : IsBidOf problem bid
   pub wrong : IsMislistedIn problem roster reasons bid
   pub before :
-      (other : BidRef) → IsBidOf problem other → IsBefore other bid → IsMislistedIn problem roster reasons other → ⊥
+      (other : BidRef) → IsBidOf problem other → IsBefore other bid
+      → IsMislistedIn problem roster reasons other → ⊥
 
 -- the first such bid, if there is one
 abbrev pub FindsMislisted : Problem → List (List ℕ) → List Denial → Option BidRef → Type 0
@@ -70,7 +75,8 @@ pub record IsPassed (reasons : List Denial) (bid : BidRef) : Type 0 where
 -- something is wrong with the reasons at a bid of a member who has the line
 abbrev pub IsWrongOf : Problem → ℕ → List ℕ → List Denial → ℕ → Type 0
 IsWrongOf problem member line reasons number =
-    IsMislisted (length problem.base.members) (is_granted problem member number line) reasons (record { member = member; bid = number })
+    IsMislisted (length problem.base.members) (is_granted problem member number line) reasons
+    (record { member = member; bid = number })
 
 -- nothing is wrong at the member's first bids, so many
 abbrev pub AreRightOf : Problem → ℕ → List ℕ → List Denial → ℕ → Type 0
@@ -78,7 +84,8 @@ AreRightOf problem member line reasons count =
     (number : ℕ) → number < count → IsWrongOf problem member line reasons number → ⊥
 
 -- the first bid of the member at which something is wrong
-pub record IsFirstOf (problem : Problem) (member : ℕ) (line : List ℕ) (reasons : List Denial) (number : ℕ) : Type 0 where
+pub record IsFirstOf (problem : Problem) (member : ℕ) (line : List ℕ) (reasons : List Denial)
+    (number : ℕ) : Type 0 where
   pub known : number < length (bids_of problem member)
   pub wrong : IsWrongOf problem member line reasons number
   pub before : AreRightOf problem member line reasons number

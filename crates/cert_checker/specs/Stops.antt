@@ -17,7 +17,8 @@ GoesOver problem goal node item after is_open =
     Leads problem goal (node ∷ nodes_behind node) (item ∷ []) (open_nodes is_open after)
 
 -- the items before this one are accepted, a node is still open, and the item has a fault there
-pub record StopsAt (problem : Problem) (goal : Goal) (items : List Item) (at : ℕ) (why : ItemFault) : Type 0 where
+pub record StopsAt (problem : Problem) (goal : Goal) (items : List Item) (at : ℕ)
+    (why : ItemFault) : Type 0 where
   pub node : List Decision
   pub behind : List (List Decision)
   pub item : Item
@@ -44,6 +45,7 @@ Stops problem goal search items (Member m why) = ⊥
 Stops problem goal search items (Cover p count) = ⊥
 Stops problem goal search items (Amount found) = ⊥
 Stops problem goal search items (AtItem k at why) = (k ≡ search) × StopsAt problem goal items at why
-Stops problem goal search items (Left k) = (k ≡ search) × (IsShort problem goal items ⊎ IsLong problem goal items)
+Stops problem goal search items (Left k) =
+    (k ≡ search) × (IsShort problem goal items ⊎ IsLong problem goal items)
 Stops problem goal search items (Reason m b) = ⊥
 Stops problem goal search items (Shown m b) = ⊥

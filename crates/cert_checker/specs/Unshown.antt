@@ -24,13 +24,15 @@ abbrev pub IsRosterShown : Problem → List ℕ → Denial → Shown → Type 0
 IsRosterShown problem scores denial shown = ForSome shown.roster (IsWitnessOf problem scores denial)
 
 -- the proof of the reason does not close its goal, and what is wrong with it
-pub record IsProofStopped (problem : Problem) (scores : List ℕ) (search : ℕ) (denial : Denial) (shown : Shown) (why : No) : Type 0 where
+pub record IsProofStopped (problem : Problem) (scores : List ℕ) (search : ℕ) (denial : Denial)
+    (shown : Shown) (why : No) : Type 0 where
   pub items : List Item
   pub here : shown.proof ≡ Some items
   pub stops : Stops problem (granting scores (place_of denial.cause) denial.bid) search items why
 
 -- the roster of the reason is not as it is to be shown
-pub record IsRosterWrong (problem : Problem) (scores : List ℕ) (denial : Denial) (shown : Shown) : Type 0 where
+pub record IsRosterWrong (problem : Problem) (scores : List ℕ) (denial : Denial)
+    (shown : Shown) : Type 0 where
   pub roster : List (List ℕ)
   pub here : shown.roster ≡ Some roster
   pub wrong : IsWitnessOf problem scores denial roster → ⊥
@@ -71,7 +73,8 @@ IsUnshown problem scores search denial shown (no.Member m why) = ⊥
 IsUnshown problem scores search denial shown (no.Cover p count) = ⊥
 IsUnshown problem scores search denial shown (no.Amount found) = ⊥
 IsUnshown problem scores search denial shown (no.Item k at why) =
-    HasItsParts denial.cause shown × IsProofStopped problem scores search denial shown (no.Item k at why)
+    HasItsParts denial.cause shown
+    × IsProofStopped problem scores search denial shown (no.Item k at why)
 IsUnshown problem scores search denial shown (no.Left k) =
     HasItsParts denial.cause shown × IsProofStopped problem scores search denial shown (no.Left k)
 IsUnshown problem scores search denial shown (no.Reason m b) = ⊥
@@ -89,10 +92,13 @@ AreShownBefore problem scores reasons shown count =
 
 -- all reasons are shown
 abbrev pub AreAllShown : Problem → List ℕ → List Denial → List Shown → Type 0
-AreAllShown problem scores reasons shown = AreShownBefore problem scores reasons shown (length reasons)
+AreAllShown problem scores reasons shown =
+    AreShownBefore problem scores reasons shown (length reasons)
 
--- the reasons before this one are shown, and this one is not; its search is numbered behind those of the places
-pub record IsFirstUnshown (problem : Problem) (scores : List ℕ) (reasons : List Denial) (shown : List Shown) (why : No) : Type 0 where
+-- the reasons before this one are shown, and this one is not; its search is numbered behind those
+-- of the places
+pub record IsFirstUnshown (problem : Problem) (scores : List ℕ) (reasons : List Denial)
+    (shown : List Shown) (why : No) : Type 0 where
   pub at : ℕ
   pub denial : Denial
   pub part : Shown

@@ -1,15 +1,12 @@
 //! The judge of an award.
-ghost use Rattle.std.specs.Prelude.{◌≡◌, ◌+◌, ◌^◌, ◌<◌, [], List as Sequence, length, All, OnOk, IfOk, IfErr};
-ghost use Rattle.roster_model.specs.declared.goal.Goal.{Goal as Aim};
-ghost use Rattle.roster_model.specs.declared.node.Decision.{Decision};
-ghost use Rattle.roster_model.specs.declared.proof.Item.{Item as Step};
-ghost use Rattle.roster_model.specs.Closing.{Closes, IsHopeless};
+ghost use Rattle.std.specs.Prelude.{◌≡◌, ◌+◌, ◌^◌, ◌<◌, [], length, All, OnOk, IfOk, IfErr};
+ghost use Rattle.roster_model.specs.Closing.{Closes};
 ghost use Rattle.roster_model.specs.Rosters.{IsComplete, scores_of};
 ghost use Rattle.roster_model.specs.Awards.{above_at, no_goal, HasNoRoster, IsBest, IsGreatest};
 ghost use Rattle.roster_model.specs.Denials.{DenialsFit, IsAwarded};
 ghost use Rattle.cert_checker.specs.Given.{AreCountableParts, AreInRange, HasSmallProof, HasSmallWeights, HaveSmallWeights, IsCountable, IsCountableProof, NameBids};
 ghost use Rattle.cert_checker.specs.Stops.{Stops};
-ghost use Rattle.cert_checker.specs.Awards.{AreAllClosed, AreAnswered, DenialsFail, Excludes, IsFirstNo, IsFirstOfPlaces, IsIncomplete, NamesFault, PlacesFail};
+ghost use Rattle.cert_checker.specs.Awards.{AreAllClosed, AreAnswered, DenialsFail, Excludes, IsClosingSound, IsFirstNo, IsFirstOfPlaces, IsIncomplete, PlacesFail};
 
 use crate::goals::goal_above;
 use crate::reasons::first_mislisted;
@@ -45,7 +42,7 @@ pub fn judge(
     ensures refused { Excludes result (IsAwarded problem.now roster.now reasons.now awarded.now) }
     ensures greatest { OnOk result (IsGreatest problem.now roster.now) }
     ensures answered { OnOk result (AreAnswered problem.now roster.now reasons.now awarded.now) }
-    ensures sound { (goal : Aim) (node : Sequence Decision) (items : Sequence Step) → Closes problem.now goal node items → IsHopeless problem.now goal node }
+    ensures sound { IsClosingSound problem.now }
 {
     let scores = judge_places(alloc, problem, roster, &awarded.proofs)?;
     judge_denials(
@@ -76,7 +73,7 @@ fn judge_places(
     ensures first { IfErr result (PlacesFail problem.now roster.now place_proofs.now) }
     ensures refused { Excludes result (IsBest problem.now roster.now place_proofs.now) }
     ensures greatest { OnOk result (IsGreatest problem.now roster.now) }
-    ensures sound { (goal : Aim) (node : Sequence Decision) (items : Sequence Step) → Closes problem.now goal node items → IsHopeless problem.now goal node }
+    ensures sound { IsClosingSound problem.now }
 {
     whole(alloc, problem, roster)?;
     let proofs = place_proofs.as_slice();
@@ -127,9 +124,9 @@ pub fn judge_none(alloc: Global, problem: &Problem, proof: &Proof) -> Result<(),
     requires countable { IsCountableProof proof.now }
     ensures accepted { OnOk result (Closes problem.now no_goal [] proof.now) }
     ensures first { IfErr result (Stops problem.now no_goal 0 proof.now) }
-    ensures refused { IfErr result (λ why. NamesFault why → Closes problem.now no_goal [] proof.now → ⊥) }
+    ensures refused { Excludes result (Closes problem.now no_goal [] proof.now) }
     ensures none { OnOk result (HasNoRoster problem.now) }
-    ensures sound { (goal : Aim) (node : Sequence Decision) (items : Sequence Step) → Closes problem.now goal node items → IsHopeless problem.now goal node }
+    ensures sound { IsClosingSound problem.now }
 {
     let goal = Goal {
         floors: List::new(alloc),

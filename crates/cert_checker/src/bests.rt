@@ -33,11 +33,16 @@ fn best_line<L: Ledger>(
     requires parts { blank.parts ≡ L.parts }
     requires share { 0 < blank.parts }
     ensures shape { OnOk result (IsLens problem.now member lens.now) }
-    ensures fault { (why : Why) → IsErrOf result (BestFault.Lens why) → IsLensFault problem.now member lens.now why }
-    ensures line { IfOk result (λ answer. IfSome answer (λ b. IsLensLine problem.now member goal.now node.now lens.now b.line)) }
-    ensures weight { IfOk result (λ answer. IfSome answer (λ b. weight_of weights.now b.line ≡ b.weight)) }
-    ensures most { IfOk result (λ answer. IfSome answer (λ b. IsMostWeight problem.now member goal.now node.now lens.now weights.now b.weight)) }
-    ensures none { IfOk result (λ answer. IfNone answer (HasNoLine problem.now member goal.now node.now lens.now)) }
+    ensures fault { (why : Why) → IsErrOf result (BestFault.Lens why)
+        → IsLensFault problem.now member lens.now why }
+    ensures line { IfOk result (λ answer. IfSome answer (λ b.
+        IsLensLine problem.now member goal.now node.now lens.now b.line)) }
+    ensures weight { IfOk result (λ answer. IfSome answer (λ b.
+        weight_of weights.now b.line ≡ b.weight)) }
+    ensures most { IfOk result (λ answer. IfSome answer (λ b.
+        IsMostWeight problem.now member goal.now node.now lens.now weights.now b.weight)) }
+    ensures none { IfOk result (λ answer. IfNone answer
+        (HasNoLine problem.now member goal.now node.now lens.now)) }
 {
     let mut steps: Steps<L> = Steps::new(blank);
     heaviest(
@@ -58,9 +63,11 @@ pub(crate) fn best_weight(
     requires asked { IsQuestion problem.now member goal.now node.now lens.now weights.now }
     ensures shape { OnOk result (IsLens problem.now member lens.now) }
     ensures fault { IfErr result (IsStepFault (IsShapeFault problem.now member lens.now)) }
-    ensures best { IfOk result (λ answer. IfSome answer (IsBestWeight problem.now member goal.now node.now lens.now weights.now)) }
+    ensures best { IfOk result (λ answer. IfSome answer
+        (IsBestWeight problem.now member goal.now node.now lens.now weights.now)) }
     ensures within { IfOk result (λ answer. IfSome answer (IsWithin 1288490188200)) }
-    ensures none { IfOk result (λ answer. IfNone answer (HasNoLine problem.now member goal.now node.now lens.now)) }
+    ensures none { IfOk result (λ answer. IfNone answer
+        (HasNoLine problem.now member goal.now node.now lens.now)) }
 {
     let blank = Blank::new(1);
     match best_line::<Brand>(alloc, problem, member, goal, node, lens, weights, blank) {

@@ -1,43 +1,62 @@
 //! Items on a member whose line is decided and does not serve.
 ghost use Rattle.std.specs.Prelude.{◌≡◌, ◌<◌, ◌↔◌, length, All, IsTrue, OnOk, IfOk, IfErr};
-ghost use Rattle.roster_model.specs.Closing.{decided_line, IsMisfit};
-ghost use Rattle.roster_model.specs.Goals.{IsGoal};
-ghost use Rattle.cert_checker.specs.Faults.{FindsUndecided, FixedFails, IsBidMet, IsFloorMet, IsStepFault, Serves};
+ghost use Rattle.roster_model.specs.Closing.{IsMisfit};
+ghost use Rattle.roster_model.specs.Goals.{IsGoal, IsNode};
+ghost use Rattle.cert_checker.specs.Given.{IsAsked};
+ghost use Rattle.cert_checker.specs.Choices.{AreChoices, FindsLine};
+ghost use Rattle.cert_checker.specs.Faults.{FixedFails, IsBidMet, IsFloorMet, IsStepFault, Serves};
 
-use crate::count::is_decided_as;
 use crate::refusal::{ItemFault, StepFault};
 use bid_score::{granted, score};
 use duty_calendar::{List, Memory};
 use line_legality::{Illegal, legal};
-use roster_model::{Goal, Line, Node, Problem};
+use roster_model::{Decision, Goal, Line, Node, Problem};
 use std::alloc::Global;
 
-/// The first pairing that is not decided for the member.
-fn first_undecided(problem: &Problem, node: &Node, member: u32) -> Option<u32>
-    ensures first { FindsUndecided problem.now node.now member result }
+/// What the decisions say of the member and of each pairing: whether the member flies it, where
+/// that is decided.
+fn choices_of(
+    alloc: Global,
+    decisions: &[Decision],
+    member: u32,
+    pairings: usize,
+) -> Result<Vec<Option<bool>>, Memory>
+    requires pairings { All (λ d. d.pairing < pairings) decisions.now }
+    ensures choices { IfOk result (λ made. AreChoices decisions.now member pairings made.items) }
 {
-    for pairing in 0..problem.base.pairings.len() as u32 {
-        if !node.is_decided(member, pairing) {
-            return Some(pairing);
+    let mut choices = vec![in alloc; None; pairings]?;
+    for decision in decisions {
+        if decision.member == member {
+            choices[decision.pairing as usize] = Some(decision.flies);
         }
     }
-    None
+    Ok(choices)
 }
 
-/// The pairings that the member is decided to fly.
-fn decided_line(alloc: Global, problem: &Problem, node: &Node, member: u32) -> Result<Line, Memory>
-    ensures line { IfOk result (λ line. line ≡ decided_line problem.now node.now member) }
+/// The pairings that the member is decided to fly, or the first pairing that is not decided.
+fn decided_line(
+    alloc: Global,
+    problem: &Problem,
+    node: &Node,
+    member: u32,
+) -> Result<Result<Line, u32>, Memory>
+    requires node { IsNode problem.now node.now }
+    ensures found { IfOk result (FindsLine problem.now node.now member) }
 {
+    let choices = choices_of(alloc, node.decisions(), member, problem.base.pairings.len())?;
     let mut flown = List::new(alloc);
-    for pairing in 0..problem.base.pairings.len() as u32 {
-        if is_decided_as(node, member, pairing, true) {
-            if flown.push(pairing).is_err() {
+    for (pairing, choice) in choices.iter().enumerate() {
+        let Some(flies) = *choice else {
+            return Ok(Err(pairing as u32));
+        };
+        if flies {
+            if flown.push(pairing as u32).is_err() {
                 return Err(Memory::NoMemory);
             }
         }
     }
     match Line::new(flown) {
-        Some(line) => Ok(line),
+        Some(line) => Ok(Ok(line)),
         None => unreachable!(),
     }
 }
@@ -99,17 +118,17 @@ pub(crate) fn fixed(
     node: &Node,
     member: u32,
 ) -> Result<(), StepFault>
-    requires goal { IsGoal problem.now goal.now }
+    requires asked { IsAsked problem.now goal.now node.now }
     ensures accepted { OnOk result (IsMisfit problem.now goal.now node.now member) }
     ensures fault { IfErr result (IsStepFault (FixedFails problem.now goal.now node.now member)) }
 {
     if member as usize >= problem.base.members.len() {
         return Err(StepFault::Of(ItemFault::Index));
     }
-    if let Some(pairing) = first_undecided(problem, node, member) {
-        return Err(StepFault::Of(ItemFault::Undecided(pairing)));
-    }
-    let line = decided_line(alloc, problem, node, member)?;
+    let line = match decided_line(alloc, problem, node, member)? {
+        Ok(line) => line,
+        Err(pairing) => return Err(StepFault::Of(ItemFault::Undecided(pairing))),
+    };
     if serves(alloc, problem, goal, member, &line)? {
         return Err(StepFault::Of(ItemFault::Fits));
     }

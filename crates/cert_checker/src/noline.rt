@@ -1,9 +1,8 @@
 //! Items on a member of whom no line passes a lens.
 ghost use Rattle.std.specs.Prelude.{◌≡◌, length, IfErr, IfOk, OnOk};
 ghost use Rattle.roster_model.specs.Closing.{IsLineless};
-ghost use Rattle.roster_model.specs.Goals.{IsGoal, IsNode};
 ghost use Rattle.roster_model.specs.Weights.{AreSmallWeights};
-ghost use Rattle.cert_checker.specs.Given.{HasFewWindows};
+ghost use Rattle.cert_checker.specs.Given.{HasFewWindows, IsAsked};
 ghost use Rattle.cert_checker.specs.Faults.{IsStepFault, NoLineFails};
 
 use crate::bests::best_weight;
@@ -33,11 +32,11 @@ pub(crate) fn noline(
     member: u32,
     lens: &Lens,
 ) -> Result<(), StepFault>
-    requires goal { IsGoal problem.now goal.now }
-    requires node { IsNode problem.now node.now }
+    requires asked { IsAsked problem.now goal.now node.now }
     requires listed { HasFewWindows lens.now }
     ensures accepted { OnOk result (IsLineless problem.now goal.now node.now member lens.now) }
-    ensures fault { IfErr result (IsStepFault (NoLineFails problem.now goal.now node.now member lens.now)) }
+    ensures fault { IfErr result (IsStepFault
+        (NoLineFails problem.now goal.now node.now member lens.now)) }
 {
     if member as usize >= problem.base.members.len() {
         return Err(StepFault::Of(ItemFault::Index));

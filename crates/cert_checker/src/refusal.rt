@@ -36,7 +36,8 @@ pub enum ItemFault {
     /// The best lines weigh so much together, and the crews that are needed no more. Code 9.
     #[error("the lines weigh {0} and the needs {1}")]
     Sum(i64, i64),
-    /// So many weights and so many lenses, and not one for each pairing and one for each member. Code 10.
+    /// So many weights and so many lenses, and not one for each pairing and one for each member.
+    /// Code 10.
     #[error("{0} weights and {1} lenses")]
     Width(u32, u32),
 }

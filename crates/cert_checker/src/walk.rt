@@ -2,7 +2,7 @@
 ghost use Rattle.std.specs.Prelude.{◌≡◌, ◌^◌, ◌<◌, [], true, length, All, OnOk, IfOk, IfErr};
 ghost use Rattle.roster_model.specs.Closing.{Closes};
 ghost use Rattle.roster_model.specs.Goals.{IsGoal, IsNode};
-ghost use Rattle.cert_checker.specs.Given.{HasFewParts, HasSmallWeights, IsCountableProof};
+ghost use Rattle.cert_checker.specs.Given.{HasFewParts, HasSmallWeights, IsAsked, IsCountableProof};
 ghost use Rattle.cert_checker.specs.Faults.{Fails, IsStepFault};
 ghost use Rattle.cert_checker.specs.Stops.{GoesOver, Stops};
 
@@ -23,8 +23,7 @@ fn step(
     node: &mut Node,
     item: &Item,
 ) -> Result<bool, StepFault>
-    requires goal { IsGoal problem.now goal.now }
-    requires node { IsNode problem.now node.old }
+    requires asked { IsAsked problem.now goal.now node.old }
     requires small { HasSmallWeights item.now }
     requires countable { HasFewParts item.now }
     ensures goes { IfOk result (GoesOver problem.now goal.now node.old item.now node.new) }

@@ -1,9 +1,8 @@
 //! Items whose weights show that no lines give the crews that are needed.
-ghost use Rattle.std.specs.Prelude.{◌≡◌, ◌<◌, ◌≤◌, ◌*◌, ◌^◌, ◌↔◌, ℤ, pos, ◌*ℤ◌, length, All, IfErr, IfOk, IsTrue, OnOk};
-ghost use Rattle.roster_model.specs.Goals.{IsGoal, IsNode};
-ghost use Rattle.roster_model.specs.Lenses.{AreLenses, IsBestWeight, IsLens, IsOutweighed};
+ghost use Rattle.std.specs.Prelude.{◌≡◌, ◌≤◌, ◌↔◌, pos, ◌*ℤ◌, length, All, IfErr, IfOk, IsTrue, OnOk};
+ghost use Rattle.roster_model.specs.Lenses.{IsBestWeight, IsLens, IsOutweighed};
 ghost use Rattle.roster_model.specs.Weights.{AreSmallWeights, IsSmallWeight, needed_weight};
-ghost use Rattle.cert_checker.specs.Given.{HasFewWindows, IsQuestion};
+ghost use Rattle.cert_checker.specs.Given.{AreFewParts, AreQuestions, HasFewWindows, IsAsked, IsQuestion};
 ghost use Rattle.cert_checker.specs.Faults.{AreWide, FindsMisshapen, IsStepFault, WeightsFails};
 ghost use Rattle.cert_checker.specs.Bests.{IsLinelessFault, IsNothingFault, IsWithin, LinesWeigh};
 
@@ -81,9 +80,11 @@ fn line_weight(
 ) -> Result<i64, StepFault>
     requires asked { IsQuestion problem.now member goal.now node.now lens.now weights.now }
     requires shape { IsLens problem.now member lens.now }
-    ensures best { IfOk result (IsBestWeight problem.now member goal.now node.now lens.now weights.now) }
+    ensures best { IfOk result
+        (IsBestWeight problem.now member goal.now node.now lens.now weights.now) }
     ensures within { IfOk result (IsWithin 1288490188200) }
-    ensures fault { IfErr result (IsStepFault (IsNothingFault problem.now goal.now node.now member lens.now)) }
+    ensures fault { IfErr result (IsStepFault
+        (IsNothingFault problem.now goal.now node.now member lens.now)) }
 {
     match best_weight(alloc, problem, member, goal, node, lens, weights)? {
         Some(weight) => Ok(weight),
@@ -91,7 +92,8 @@ fn line_weight(
     }
 }
 
-/// What the best lines weigh together, one for each member's lens, or the first member of whom no line passes.
+/// What the best lines weigh together, one for each member's lens, or the first member of whom no
+/// line passes.
 fn best_weights(
     alloc: Global,
     problem: &Problem,
@@ -100,15 +102,11 @@ fn best_weights(
     weights: &[i64],
     lenses: &[Lens],
 ) -> Result<i64, StepFault>
-    requires goal { IsGoal problem.now goal.now }
-    requires node { IsNode problem.now node.now }
-    requires per_pairing { length weights.now ≡ length problem.now.base.pairings }
-    requires small { AreSmallWeights weights.now }
-    requires per_member { length lenses.now ≡ length problem.now.base.members }
-    requires shapes { AreLenses problem.now lenses.now }
-    requires listed { All HasFewWindows lenses.now }
-    ensures together { IfOk result (LinesWeigh problem.now goal.now node.now weights.now lenses.now) }
-    ensures fault { IfErr result (IsStepFault (IsLinelessFault problem.now goal.now node.now lenses.now)) }
+    requires asked { AreQuestions problem.now goal.now node.now weights.now lenses.now }
+    ensures together { IfOk result
+        (LinesWeigh problem.now goal.now node.now weights.now lenses.now) }
+    ensures fault { IfErr result (IsStepFault
+        (IsLinelessFault problem.now goal.now node.now lenses.now)) }
 {
     let mut sum = 0;
     for (member, lens) in lenses.iter().enumerate() {
@@ -117,7 +115,8 @@ fn best_weights(
     Ok(sum)
 }
 
-/// Whether the best lines, one for each member's lens, weigh less together than the crews that are needed.
+/// Whether the best lines, one for each member's lens, weigh less together than the crews that are
+/// needed.
 pub(crate) fn outweighed(
     alloc: Global,
     problem: &Problem,
@@ -126,14 +125,13 @@ pub(crate) fn outweighed(
     weights: &[i32],
     lenses: &[Lens],
 ) -> Result<(), StepFault>
-    requires goal { IsGoal problem.now goal.now }
-    requires node { IsNode problem.now node.now }
+    requires asked { IsAsked problem.now goal.now node.now }
     requires small { AreSmallWeights weights.now }
-    requires few_weights { length weights.now < 2 ^ 32 }
-    requires few_lenses { length lenses.now < 2 ^ 32 }
-    requires listed { All HasFewWindows lenses.now }
-    ensures accepted { OnOk result (IsOutweighed problem.now goal.now node.now weights.now lenses.now) }
-    ensures fault { IfErr result (IsStepFault (WeightsFails problem.now goal.now node.now weights.now lenses.now)) }
+    requires few { AreFewParts weights.now lenses.now }
+    ensures accepted { OnOk result
+        (IsOutweighed problem.now goal.now node.now weights.now lenses.now) }
+    ensures fault { IfErr result (IsStepFault
+        (WeightsFails problem.now goal.now node.now weights.now lenses.now)) }
 {
     if !are_wide(problem, weights, lenses) {
         let width = ItemFault::Width(weights.len() as u32, lenses.len() as u32);

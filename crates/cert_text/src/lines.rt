@@ -9,7 +9,8 @@ ghost use Rattle.cert_text.specs.declared.flaw.Stop.TheVariants.{Fault};
 
 use crate::fault::{CertCode, CertFault};
 use crate::flaw::{Flaw, Stop};
-use crate::words::{first_word, is_word, place_of};
+use crate::words::{first_word, is_word};
+use field_text::place_of;
 use std::marker::Model;
 
 /// A line by its number and its bytes: all of them, or those behind its first word.

@@ -2,6 +2,7 @@
 
 use crate::{CertCode, CertFault, print_certificate, read_certificate};
 use duty_calendar::{List, Memory};
+use field_text::{put_bytes, put_number};
 use roster_model::{Certificate, Item, Lens, Proof, Shown, Window, WindowKind};
 use std::alloc::Global;
 use std::process::Abort;
@@ -210,6 +211,28 @@ fn cut_texts_are_short(rt: HostRuntime) -> Result<(), Fail> {
     }
     assert_eq!(rt; line, 17);
     Ok(())
+}
+
+/// A text with one shown row of so many pairings.
+fn row_of(alloc: Global, count: u32) -> Result<List<u8>, Memory> {
+    let mut text = List::new(alloc);
+    put_bytes(&mut text, b"pbs-certificate 1\naward 0 1\nshown 0 1\nline")?;
+    for pairing in 0..count {
+        put_bytes(&mut text, b" ")?;
+        put_number(&mut text, pairing + 1)?;
+    }
+    put_bytes(&mut text, b"\nend\n")?;
+    Ok(text)
+}
+
+#[test]
+fn rows_have_a_limit(rt: HostRuntime) -> Result<(), Fail> {
+    let alloc = rt.alloc();
+    let most = row_of(alloc, 600)?;
+    assert!(rt; most.len() <= 2_147_483_648);
+    assert!(rt; read_certificate(alloc, most.as_slice()).is_ok());
+    let more = row_of(alloc, 601)?;
+    assert_fault(&rt, alloc, more.as_slice(), 4, CertCode::Limit)
 }
 
 /// The windows of the first lens of the full text.

@@ -1,6 +1,10 @@
 -- The loops over chosen bits.
 use Rattle.std.proofs.Common.{◌≡◌, ℕ, suc, ◌+◌, ◌-◌, ◌*◌, ◌^◌, ◌<◌, ◌≤◌, List, ◌∷◌, sym, ◌∙◌, ap, subst, arith, length, get_or, drop}
+use Rattle.std.specs.Prelude.{bit_and, bit_or}
 use Rattle.std.specs.Int.{bit_at}
+use Rattle.std.specs.Int.Bits.{or_zero_r}
+use Rattle.std.proofs.lemmas.Nat.{and_mask}
+use Rattle.std.proofs.Math.Nat.{mod-eq_of_lt}
 use Rattle.std.proofs.lemmas.List.{length-drop}
 use Rattle.std.proofs.Math.Seq.{drop-cons}
 use Rattle.std.proofs.Math.Pow.{pow_mono}
@@ -25,3 +29,13 @@ state_more chosen bits back state bit none less bit_is so_far =
     ap (λ n. drop n chosen) at ∙ (drop-cons chosen (length chosen - 1 - back) none (omega (arith, less)) ∙ ap (λ n. get_or chosen (length chosen - 1 - back) none ∷ drop n chosen) next) in
     let whole : state_of (drop (length chosen - (back + 1)) chosen) bits ≡ bit_at bits (get_or chosen (length chosen - 1 - back) none).place + 2 * state_of (drop (length chosen - back) chosen) bits = ap (λ (xs : List Chosen). state_of xs bits) parts in
     omega (arith, bit_is, so_far, whole)
+
+-- a move that keeps all bits and sets none
+pub all_stay : (wide state keep set : ℕ) → state < 2 ^ wide → keep ≡ 2 ^ wide - 1 → set ≡ 0 → bit_or (bit_and state keep) set ≡ state - 0
+all_stay wide state keep set less all none =
+    let same : state ≡ state - 0 = omega arith in
+    ap (λ n. bit_or (bit_and state keep) n) none
+    ∙ (or_zero_r (bit_and state keep)
+    ∙ (ap (λ n. bit_and state n) all
+    ∙ (and_mask state wide
+    ∙ (mod-eq_of_lt less ∙ same))))

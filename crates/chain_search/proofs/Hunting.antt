@@ -21,9 +21,9 @@ use Rattle.chain_search.specs.declared.turns.Label.{Label}
 use Rattle.chain_search.specs.declared.turns.Open.{Open}
 use Rattle.chain_search.specs.Leavings.{Leaving}
 use Rattle.chain_search.specs.Marking.{KeepsMark, Stands, dispenses}
-use Rattle.chain_search.specs.Searches.{ComesFrom, Enters, Hunts, IsNext, IsOnPath, IsWithin, NoneAbove, Owes, Puts, Spreads, reached_label, reached_mark, reached_open}
+use Rattle.chain_search.specs.Searches.{ComesFrom, Enters, Hunts, IsNext, IsOnPath, IsWithin, NoneAboveFrom, Owes, Puts, Spreads, reached_label, reached_mark, reached_open}
 use Rattle.chain_search.proofs.ListReads.{below_or_at, contains_read, same_some}
-use Rattle.chain_search.proofs.Walking.{NoneByFirst, fits_at, leads_push, none_at_sink, none_by_all, none_dispensed, none_in_rest, same_next}
+use Rattle.chain_search.proofs.Walking.{NoneByFirst, fits_at, le_through, leads_push, none_at_sink, none_by_all, none_dispensed, none_in_rest, same_next}
 
 -- parts of lists
 all_left : {X : Type 0} (P : X → Type 0) (xs ys : List X) → All P (xs ++ ys) → All P xs
@@ -61,6 +61,9 @@ less_test a b h = grind (arith, ints)
 not_less : (a b : ℤ) → int_lt a b ≡ false → b ≤ℤ a
 not_less a b h = grind (arith, ints)
 
+le_self : (a : ℤ) → a ≤ℤ a
+le_self a = omega (arith, ints)
+
 pub from_zero : (result rest over : ℤ) → result ≡ rest → result ≤ℤ over → (pos 0 +ℤ rest) ≤ℤ over
 from_zero result rest over is low = omega (arith, ints)
 
@@ -96,8 +99,8 @@ listed_read arcs places place numbers k arc fit leaving less read =
     record { is = is; from = ap (λ (a : Arc _). a.from) (sym same) ∙ leaves.from; fits = fits_at places arcs (get_or numbers k 0) arc fit.arcs_fit is }
 
 module _ {R S E : Type 0} (extend : R → S → Option R) (done : R → E → Bool) (graph : GraphOf R S E) (over : ℤ) where
-  abbrev None_at : Open R → Type 0
-  None_at next = NoneAbove extend done graph over (reached_open next)
+  abbrev None_at : ℤ → Open R → Type 0
+  None_at most next = NoneAboveFrom extend done graph most (reached_open next)
 
   -- the labels that were spread by the first of the arcs
   pub record Spreading (label : Label R) (old waiting : List (Open R)) (best : Option (Open R)) (numbers : List ℕ) (count : ℕ) : Type 0 where
@@ -105,7 +108,7 @@ module _ {R S E : Type 0} (extend : R → S → Option R) (done : R → E → Bo
     pub added : waiting ≡ old ++ more
     pub come : All (ComesFrom extend graph label) more
     pub best_comes : IfSome best (ComesFrom extend graph label)
-    pub none : All (λ next. NoneAbove extend done graph over (reached_open next)) more → IfSome best (λ next. NoneAbove extend done graph over (reached_open next)) → NoneByFirst extend done graph over (reached_label label) numbers count
+    pub none : (most : ℤ) → over ≤ℤ most → All (λ next. NoneAboveFrom extend done graph most (reached_open next)) more → IfSome best (λ next. NoneAboveFrom extend done graph most (reached_open next)) → NoneByFirst extend done graph most (reached_label label) numbers count
 
   pub spreading_start : (label : Label R) (old : List (Open R)) (numbers : List ℕ) → Spreading label old old None numbers 0
   spreading_start label old numbers = record {
@@ -113,12 +116,12 @@ module _ {R S E : Type 0} (extend : R → S → Option R) (done : R → E → Bo
     added = sym (append-nil old);
     come = All-nil (ComesFrom extend graph label);
     best_comes = tt;
-    none = λ all none k number next less. absurd (omega (arith, less));
+    none = λ most up all none k number next less. absurd (omega (arith, less));
   }
 
-  by_more : (label : Label R) (numbers : List ℕ) (count number : ℕ) → slice_get numbers count ≡ Some number → NoneByFirst extend done graph over (reached_label label) numbers count
-      → ((next : Reached R) → Takes extend graph.arcs (reached_label label) number next → NoneAbove extend done graph over next) → NoneByFirst extend done graph over (reached_label label) numbers (count + 1)
-  by_more label numbers count number is before here k other next less other_is takes = elim (below_or_at k count less) [
+  by_more : (most : ℤ) (label : Label R) (numbers : List ℕ) (count number : ℕ) → slice_get numbers count ≡ Some number → NoneByFirst extend done graph most (reached_label label) numbers count
+      → ((next : Reached R) → Takes extend graph.arcs (reached_label label) number next → NoneAboveFrom extend done graph most next) → NoneByFirst extend done graph most (reached_label label) numbers (count + 1)
+  by_more most label numbers count number is before here k other next less other_is takes = elim (below_or_at k count less) [
     | inl earlier ↦ before k other next earlier other_is takes
     | inr now ↦ (
         let same : other ≡ number = same_some (slice_get numbers count) other number (subst (λ j. slice_get numbers j ≡ Some other) now other_is) is in
@@ -134,10 +137,10 @@ module _ {R S E : Type 0} (extend : R → S → Option R) (done : R → E → Bo
     added = so_far.added;
     come = so_far.come;
     best_comes = so_far.best_comes;
-    none = λ all none. by_more label numbers count number at (so_far.none all none) (λ next takes.
+    none = λ most up all none. by_more most label numbers count number at (so_far.none most up all none) (λ next takes.
         let extends : extend label.resource arc.step ≡ Some next.resource = subst (λ (a : Arc S). extend label.resource a.step ≡ Some next.resource) (same_some (slice_get graph.arcs number) takes.arc arc takes.is is) takes.extends in
         let same = same_next extend graph.arcs (reached_label label) next number arc (label.gain +ℤ arc.gain) next.resource is refl extends takes in
-        subst (NoneAbove extend done graph over) (sym same) (none_in_rest extend done graph over rest rests (record { place = arc.to; gain = label.gain +ℤ arc.gain; resource = next.resource }) (enters next.resource extends)));
+        subst (NoneAboveFrom extend done graph most) (sym same) (none_in_rest extend done graph most rest rests (record { place = arc.to; gain = label.gain +ℤ arc.gain; resource = next.resource }) (le_through (label.gain +ℤ arc.gain +ℤ rest arc.to next.resource) over most (enters next.resource extends) up)));
   }
 
   pub comes : (label : Label R) (number : ℕ) (arc : Arc S) (next : Open R) → IsGraph graph.places graph.arcs → slice_get graph.arcs number ≡ Some arc → arc.from ≡ label.place → IsNext extend label number arc next → ComesFrom extend graph label next
@@ -154,13 +157,13 @@ module _ {R S E : Type 0} (extend : R → S → Option R) (done : R → E → Bo
         within = subst (λ p. IsWithin p next.gain) (sym enters.place) enters.within;
       }
 
-  none_by_next : (label : Label R) (number : ℕ) (arc : Arc S) (next : Open R) → slice_get graph.arcs number ≡ Some arc → IsNext extend label number arc next → None_at next
-      → (to : Reached R) → Takes extend graph.arcs (reached_label label) number to → NoneAbove extend done graph over to
-  none_by_next label number arc next is enters none to takes =
+  none_by_next : (most : ℤ) (label : Label R) (number : ℕ) (arc : Arc S) (next : Open R) → slice_get graph.arcs number ≡ Some arc → IsNext extend label number arc next → None_at most next
+      → (to : Reached R) → Takes extend graph.arcs (reached_label label) number to → NoneAboveFrom extend done graph most to
+  none_by_next most label number arc next is enters none to takes =
       let same : to ≡ record { place = arc.to; gain = label.gain +ℤ arc.gain; resource = next.resource } = same_next extend graph.arcs (reached_label label) to number arc (label.gain +ℤ arc.gain) next.resource is refl enters.extends takes in
-      subst (NoneAbove extend done graph over) (sym same)
-      (subst (λ p. NoneAbove extend done graph over (record { place = p; gain = label.gain +ℤ arc.gain; resource = next.resource })) enters.place
-      (subst (λ g. NoneAbove extend done graph over (record { place = next.place; gain = g; resource = next.resource })) enters.sum none))
+      subst (NoneAboveFrom extend done graph most) (sym same)
+      (subst (λ p. NoneAboveFrom extend done graph most (record { place = p; gain = label.gain +ℤ arc.gain; resource = next.resource })) enters.place
+      (subst (λ g. NoneAboveFrom extend done graph most (record { place = next.place; gain = g; resource = next.resource })) enters.sum none))
 
   -- the arc leads to a label that waits, or that is the best so far
   pub spreading_put : (label : Label R) (old waiting new : List (Open R)) (best : Option (Open R)) (next ahead : Open R) (numbers : List ℕ) (count number : ℕ) (arc : Arc S)
@@ -171,7 +174,7 @@ module _ {R S E : Type 0} (extend : R → S → Option R) (done : R → E → Bo
     added = puts.0 ∙ so_far.added;
     come = so_far.come;
     best_comes = subst (ComesFrom extend graph label) (sym puts.1) from;
-    none = λ all none. by_more label numbers count number at (so_far.none all tt) (none_by_next label number arc next is enters (subst None_at puts.1 none));
+    none = λ most up all none. by_more most label numbers count number at (so_far.none most up all tt) (none_by_next most label number arc next is enters (subst (None_at most) puts.1 none));
   }
   spreading_put label old waiting new (Some last) next ahead numbers count number arc at is enters from puts so_far = elim puts [
     | inl other ↦ record {
@@ -179,14 +182,14 @@ module _ {R S E : Type 0} (extend : R → S → Option R) (done : R → E → Bo
       added = other.0 ∙ (ap (λ (xs : List (Open R)). xs ++ last ∷ []) so_far.added ∙ append_assoc old so_far.more (last ∷ []));
       come = All-push (ComesFrom extend graph label) so_far.more last so_far.come so_far.best_comes;
       best_comes = subst (ComesFrom extend graph label) (sym other.1) from;
-      none = λ all none. by_more label numbers count number at (so_far.none (all_left None_at so_far.more (last ∷ []) all) (all_last None_at so_far.more last all)) (none_by_next label number arc next is enters (subst None_at other.1 none));
+      none = λ most up all none. by_more most label numbers count number at (so_far.none most up (all_left (None_at most) so_far.more (last ∷ []) all) (all_last (None_at most) so_far.more last all)) (none_by_next most label number arc next is enters (subst (None_at most) other.1 none));
     }
     | inr other ↦ record {
       more = so_far.more ++ next ∷ [];
       added = other.0 ∙ (ap (λ (xs : List (Open R)). xs ++ next ∷ []) so_far.added ∙ append_assoc old so_far.more (next ∷ []));
       come = All-push (ComesFrom extend graph label) so_far.more next so_far.come from;
       best_comes = subst (ComesFrom extend graph label) (sym other.1) so_far.best_comes;
-      none = λ all none. by_more label numbers count number at (so_far.none (all_left None_at so_far.more (next ∷ []) all) (subst None_at other.1 none)) (none_by_next label number arc next is enters (all_last None_at so_far.more next all));
+      none = λ most up all none. by_more most label numbers count number at (so_far.none most up (all_left (None_at most) so_far.more (next ∷ []) all) (subst (None_at most) other.1 none)) (none_by_next most label number arc next is enters (all_last (None_at most) so_far.more next all));
     }
   ]
 
@@ -195,7 +198,7 @@ module _ {R S E : Type 0} (extend : R → S → Option R) (done : R → E → Bo
     more = spread.more;
     added = spread.added;
     come = spread.come;
-    none = λ none. none_by_all extend done graph over (reached_label label) numbers (λ e. omega (arith, e, inside)) leaving (λ k number next less. spread.none none tt k number next (omega (arith, less, all)));
+    none = λ most up none. none_by_all extend done graph most (reached_label label) numbers (λ e. omega (arith, e, inside)) leaving (λ k number next less. spread.none most up none tt k number next (omega (arith, less, all)));
   }
 
   pub spread_last : (label : Label R) (old waiting new : List (Open R)) (last : Open R) (numbers : List ℕ) (count : ℕ) → label.place + 1 < graph.places → Leaving graph.arcs label.place numbers → length numbers ≤ count → new ≡ waiting ++ last ∷ [] → Spreading label old waiting (Some last) numbers count → Spreads extend done graph over label old new
@@ -203,36 +206,36 @@ module _ {R S E : Type 0} (extend : R → S → Option R) (done : R → E → Bo
     more = spread.more ++ last ∷ [];
     added = pushed ∙ (ap (λ (xs : List (Open R)). xs ++ last ∷ []) spread.added ∙ append_assoc old spread.more (last ∷ []));
     come = All-push (ComesFrom extend graph label) spread.more last spread.come spread.best_comes;
-    none = λ none. none_by_all extend done graph over (reached_label label) numbers (λ e. omega (arith, e, inside)) leaving (λ k number next less.
-        spread.none (all_left None_at spread.more (last ∷ []) none) (all_last None_at spread.more last none) k number next (omega (arith, less, all)));
+    none = λ most up none. none_by_all extend done graph most (reached_label label) numbers (λ e. omega (arith, e, inside)) leaving (λ k number next less.
+        spread.none most up (all_left (None_at most) spread.more (last ∷ []) none) (all_last (None_at most) spread.more last none) k number next (omega (arith, less, all)));
   }
 
   -- what waits from this place on has nothing above the bound
-  abbrev None_from : ℕ → Open R → Type 0
-  None_from place next = place ≤ next.place → NoneAbove extend done graph over (reached_open next)
+  abbrev None_from : ℤ → ℕ → Open R → Type 0
+  None_from most place next = place ≤ next.place → NoneAboveFrom extend done graph most (reached_open next)
 
   -- the label took its turn
-  owes_on : (before after : List (Open R)) (next : Open R) (place : ℕ) (label : Reached R) → Owes extend done graph over after (next.place + 1) (reached_open next) → (All (None_from place) after → All (None_from place) before)
+  owes_on : (before after : List (Open R)) (next : Open R) (place : ℕ) (label : Reached R) → Owes extend done graph over after (next.place + 1) (reached_open next) → ((most : ℤ) → All (None_from most place) after → All (None_from most place) before)
       → Owes extend done graph over (before ++ next ∷ []) place label → Owes extend done graph over after place label
   owes_on before after next place label owes kept old = record {
-    none = λ all. old.none (All-push (None_from place) before next (kept all) (λ from. owes.none (All-weaker (None_from place) (None_from (next.place + 1)) (λ other none later. none (omega (arith, from, later))) after all)));
+    none = λ most up all. old.none most up (All-push (None_from most place) before next (kept most all) (λ from. owes.none most up (All-weaker (None_from most place) (None_from most (next.place + 1)) (λ other none later. none (omega (arith, from, later))) after all)));
   }
 
   owes_spread : (old new : List (Open R)) (label : Label R) → Spreads extend done graph over label old new → Owes extend done graph over new (label.place + 1) (reached_label label)
   owes_spread old new label spreads = record {
-    none = λ all.
-        let more = all_right (None_from (label.place + 1)) old spreads.more (subst (All (None_from (label.place + 1))) spreads.added all) in
-        spreads.none (λ k d less. more k d less (let forward = (spreads.come k d less).forward in omega (arith, forward)));
+    none = λ most up all.
+        let more = all_right (None_from most (label.place + 1)) old spreads.more (subst (All (None_from most (label.place + 1))) spreads.added all) in
+        spreads.none most up (λ k d less. more k d less (let forward = (spreads.come k d less).forward in omega (arith, forward)));
   }
 
   owes_less : (waiting : List (Open R)) (next : Open R) (place : ℕ) (label : Reached R) → next.place < place → Owes extend done graph over (waiting ++ next ∷ []) place label → Owes extend done graph over waiting place label
-  owes_less waiting next place label before owes = record { none = λ all. owes.none (All-push (None_from place) waiting next all (λ from. absurd (omega (arith, before, from)))) }
+  owes_less waiting next place label before owes = record { none = λ most up all. owes.none most up (All-push (None_from most place) waiting next all (λ from. absurd (omega (arith, before, from)))) }
 
   -- a label after which nothing is above the bound is let go
   hunt_drop : (path : List ℕ) (marks : List (List (Mark R))) (waiting : List (Open R)) (next : Open R) → Owes extend done graph over waiting (next.place + 1) (reached_open next) → Hunts extend done graph over path marks (waiting ++ next ∷ []) → Hunts extend done graph over path marks waiting
   hunt_drop path marks waiting next owes hunts = record {
-    first = owes_on waiting waiting next 0 (source graph.start) owes (λ all. all) hunts.first;
-    marked = λ place mark stands. owes_on waiting waiting next (place + 1) (reached_mark place mark) owes (λ all. all) (hunts.marked place mark stands);
+    first = owes_on waiting waiting next 0 (source graph.start) owes (λ most all. all) hunts.first;
+    marked = λ place mark stands. owes_on waiting waiting next (place + 1) (reached_mark place mark) owes (λ most all. all) (hunts.marked place mark stands);
     on_path = all_left (IsOnPath extend graph path) waiting (next ∷ []) hunts.on_path;
     ascend = pairs_left (λ a b. a.before ≤ b.before) waiting (next ∷ []) hunts.ascend;
     count = hunts.count;
@@ -241,21 +244,40 @@ module _ {R S E : Type 0} (extend : R → S → Option R) (done : R → E → Bo
   pub hunt_low : (path : List ℕ) (marks : List (List (Mark R))) (waiting : List (Open R)) (next : Open R) → IsGraph graph.places graph.arcs → next.place + 1 ≡ graph.places → (done next.resource graph.end && int_lt over next.gain) ≡ false
       → Hunts extend done graph over path marks (waiting ++ next ∷ []) → Hunts extend done graph over path marks waiting
   hunt_low path marks waiting next fit at fails hunts = hunt_drop path marks waiting next
-      (record { none = λ all. none_at_sink extend done graph over (reached_open next) fit (omega (arith, at)) (λ is_done. not_less over next.gain (second (done next.resource graph.end) (int_lt over next.gain) is_done fails)) }) hunts
+      (record { none = λ most up all. none_at_sink extend done graph most (reached_open next) fit (omega (arith, at)) (λ is_done. le_through next.gain over most (not_less over next.gain (second (done next.resource graph.end) (int_lt over next.gain) is_done fails)) up) }) hunts
     where
       second : (a b : Bool) → a ≡ true → (a && b) ≡ false → b ≡ false
       second true b p q = q
       second false b p q = cc
 
-  pub hunt_ends : (path new : List ℕ) (marks : List (List (Mark R))) (waiting : List (Open R)) (next : Open R) → next.place + 1 ≡ graph.places → (done next.resource graph.end && int_lt over next.gain) ≡ true → new ≡ take next.before path ++ next.arc ∷ []
-      → Hunts extend done graph over path marks (waiting ++ next ∷ []) → IsFeasible extend done graph new next.gain
-  hunt_ends path new marks waiting next at ends is hunts =
+  -- a label from which what may still be gained is too little is let go
+  pub hunt_rest : (path : List ℕ) (marks : List (List (Mark R))) (waiting : List (Open R)) (next : Open R) (rest : ℕ → R → ℤ) → IsBound extend done graph rest → (next.gain +ℤ rest next.place next.resource) ≤ℤ over
+      → Hunts extend done graph over path marks (waiting ++ next ∷ []) → Hunts extend done graph over path marks waiting
+  hunt_rest path marks waiting next rest bound low hunts = hunt_drop path marks waiting next
+      (record { none = λ most up all. none_in_rest extend done graph most rest bound (reached_open next) (le_through (next.gain +ℤ rest next.place next.resource) over most low up) }) hunts
+
+  pub hunt_ends : (path : List ℕ) (marks : List (List (Mark R))) (waiting : List (Open R)) (next : Open R) → next.place + 1 ≡ graph.places → (done next.resource graph.end && int_lt over next.gain) ≡ true
+      → Hunts extend done graph over path marks (waiting ++ next ∷ []) → IsFeasible extend done graph (take next.before path ++ next.arc ∷ []) next.gain
+  hunt_ends path marks waiting next at ends hunts =
       let on = all_last (IsOnPath extend graph path) waiting next hunts.on_path in
       record {
         last = next.resource;
-        leads = subst (λ (p : ℕ). Leads extend graph.arcs (source graph.start) new (record { place = p; gain = next.gain; resource = next.resource })) (omega (arith, at)) (subst (λ (chain : List ℕ). Leads extend graph.arcs (source graph.start) chain (reached_open next)) (sym is) on.leads);
+        leads = subst (λ (p : ℕ). Leads extend graph.arcs (source graph.start) (take next.before path ++ next.arc ∷ []) (record { place = p; gain = next.gain; resource = next.resource })) (omega (arith, at)) on.leads;
         is_done = (and_parts (done next.resource graph.end) (int_lt over next.gain) ends).0;
       }
+
+  -- what waits goes on under a greater bound
+  pub hunt_raised : (more : ℤ) (path : List ℕ) (marks : List (List (Mark R))) (waiting : List (Open R)) → over ≤ℤ more → Hunts extend done graph over path marks waiting → Hunts extend done graph more path marks waiting
+  hunt_raised more path marks waiting raise hunts = record {
+    first = owes_raised 0 (source graph.start) hunts.first;
+    marked = λ place mark stands. owes_raised (place + 1) (reached_mark place mark) (hunts.marked place mark stands);
+    on_path = hunts.on_path;
+    ascend = hunts.ascend;
+    count = hunts.count;
+  }
+    where
+      owes_raised : (place : ℕ) (label : Reached R) → Owes extend done graph over waiting place label → Owes extend done graph more waiting place label
+      owes_raised place label owes = record { none = λ most up. owes.none most (le_through over more most raise up) }
 
   pub hunt_above : (next : Open R) → (done next.resource graph.end && int_lt over next.gain) ≡ true → over <ℤ next.gain
   hunt_above next ends = less_test over next.gain (and_parts (done next.resource graph.end) (int_lt over next.gain) ends).1
@@ -271,10 +293,10 @@ module _ {R S E : Type 0} (extend : R → S → Option R) (done : R → E → Bo
     where
       by_mark : Any (λ mark. dispenses below mark next.gain next.resource ≡ true) row → Owes extend done graph over waiting (next.place + 1) (reached_open next)
       by_mark found = record {
-        none = λ all.
+        none = λ most up all.
             let marked = hunts.marked next.place found.1 (record { row = row; is = is; listed = (found.0, found.2, found.3) }) in
             let earlier = owes_less waiting next (next.place + 1) (reached_mark next.place found.1) (omega arith) marked in
-            none_dispensed extend done graph over below laws next.place found.1 next.gain next.resource found.4 (earlier.none all);
+            none_dispensed extend done graph most below laws next.place found.1 next.gain next.resource found.4 (earlier.none most up all);
       }
 
   -- the label went on by each arc
@@ -287,7 +309,7 @@ module _ {R S E : Type 0} (extend : R → S → Option R) (done : R → E → Bo
       let on = all_last (IsOnPath extend graph path) waiting next hunts.on_path in
       let owes : Owes extend done graph over more (next.place + 1) (reached_open next) = owes_spread waiting more label spreads in
       let low = pairs_last (λ a b. a.before ≤ b.before) waiting next hunts.ascend in
-      let kept_from : (place : ℕ) → All (None_from place) more → All (None_from place) waiting = λ place all. all_left (None_from place) waiting spreads.more (subst (All (None_from place)) spreads.added all) in
+      let kept_from : (place : ℕ) (most : ℤ) → All (None_from most place) more → All (None_from most place) waiting = λ place most all. all_left (None_from most place) waiting spreads.more (subst (All (None_from most place)) spreads.added all) in
       let long : length new ≡ next.before + 1 = ap length is ∙ (one_more (take next.before path) next.arc ∙ ap (λ n. n + 1) (length-take-le next.before path on.before)) in
       record {
         first = owes_on waiting more next 0 (source graph.start) owes (kept_from 0) hunts.first;
@@ -339,7 +361,7 @@ module _ {R S E : Type 0} (extend : R → S → Option R) (done : R → E → Bo
       let label : Label R = record { before = 0; place = 0; gain = pos 0; resource = graph.start } in
       let owes = owes_spread [] waiting label spreads in
       record {
-        first = record { none = λ all. owes.none (All-weaker (None_from 0) (None_from 1) (λ other none later. none (omega arith)) waiting all) };
+        first = record { none = λ most up all. owes.none most up (All-weaker (None_from most 0) (None_from most 1) (λ other none later. none (omega arith)) waiting all) };
         marked = λ place mark stands. absurd (no_mark place mark stands bare);
         on_path = subst (All (IsOnPath extend graph [])) (sym spreads.added) (λ k d less. let from = spreads.come k d less in record {
           leads = subst (λ (front : List ℕ). Leads extend graph.arcs (source graph.start) (front ++ (get_or spreads.more k d).arc ∷ []) (reached_open (get_or spreads.more k d))) (sym (take_all (get_or spreads.more k d).before [] (omega arith))) ((reached_open (get_or spreads.more k d), from.takes, refl));
@@ -357,5 +379,20 @@ module _ {R S E : Type 0} (extend : R → S → Option R) (done : R → E → Bo
           let listed : Contains [] mark = subst (λ (row : List (Mark R)). Contains row mark) none stands.listed in
           omega (arith, listed.1)
 
-  pub hunt_over : (path : List ℕ) (marks : List (List (Mark R))) → Hunts extend done graph over path marks [] → NoneAbove extend done graph over (source graph.start)
-  hunt_over path marks hunts = hunts.first.none (All-nil (None_from 0))
+  pub hunt_over : (path : List ℕ) (marks : List (List (Mark R))) → Hunts extend done graph over path marks [] → NoneAboveFrom extend done graph over (source graph.start)
+  hunt_over path marks hunts = hunts.first.none over (le_self over) (All-nil (None_from over 0))
+
+module _ {R S E : Type 0} (extend : R → S → Option R) (done : R → E → Bool) (graph : GraphOf R S E) where
+  -- the label came above the bound, which rises to what it gained
+  pub hunt_on_above : (over : ℤ) (path : List ℕ) (marks : List (List (Mark R))) (waiting : List (Open R)) (next : Open R) → IsGraph graph.places graph.arcs → next.place + 1 ≡ graph.places → over <ℤ next.gain
+      → Hunts extend done graph over path marks (waiting ++ next ∷ []) → Hunts extend done graph next.gain path marks waiting
+  hunt_on_above over path marks waiting next fit at above hunts =
+      hunt_low extend done graph next.gain path marks waiting next fit at (no_more (done next.resource graph.end))
+      (hunt_raised extend done graph over next.gain path marks (waiting ++ next ∷ []) (no_less over next.gain above) hunts)
+    where
+      no_less : (a b : ℤ) → a <ℤ b → a ≤ℤ b
+      no_less a b p = omega (arith, ints, p)
+
+      no_more : (a : Bool) → (a && int_lt next.gain next.gain) ≡ false
+      no_more true = grind (arith, ints)
+      no_more false = refl

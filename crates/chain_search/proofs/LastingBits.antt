@@ -1,5 +1,5 @@
 -- Bits that no later arc clears stay set, so that a bound may count them.
-use Rattle.std.proofs.Common.{◌≡◌, ℕ, ℤ, ◌+◌, ◌-◌, ◌*◌, ◌^◌, ◌<◌, ◌≤◌, ◌+ℤ◌, ◌≤ℤ◌, neg_ℤ, pos, min, max, List, [], ◌∷◌, ◌++◌, ◌⊎◌, Bool, true, false, Option, None, Some, ◌==◌, inl, inr, refl, sym, ◌∙◌, ap, subst, arith, length, get_or}
+use Rattle.std.proofs.Common.{◌≡◌, ℕ, ℤ, ◌+◌, ◌-◌, ◌*◌, ◌^◌, ◌<◌, ◌≤◌, ◌+ℤ◌, ◌≤ℤ◌, neg_ℤ, pos, min, max, List, [], ◌∷◌, ◌++◌, Bool, true, false, Option, None, Some, ◌==◌, inl, inr, refl, sym, ◌∙◌, ap, subst, arith, length, get_or}
 use Rattle.std.specs.Prelude.{All, bit_and, bit_or, if◌then◌else◌, slice_get}
 use Rattle.std.specs.Int.{bit_at}
 use Rattle.std.proofs.lemmas.Bool.{and_parts}
@@ -17,8 +17,8 @@ use Rattle.label_lattice.specs.Mask.{bits_below, mask_done, mask_extend}
 use Rattle.label_lattice.specs.MaskLaws.{mask_resource_laws}
 use Rattle.label_lattice.specs.Pair.{both_of, pair_done, pair_extend}
 use Rattle.label_setter.specs.declared.graph.Arc.{Arc}
-use Rattle.label_setter.specs.Graphs.{FitsPlaces, IsGraph}
-use Rattle.label_setter.specs.Chains.{GraphOf, Reached, Takes}
+use Rattle.label_setter.specs.Graphs.{IsGraph}
+use Rattle.label_setter.specs.Chains.{GraphOf}
 use Rattle.label_setter.specs.Rests.{IsRest}
 use Rattle.chain_search.specs.declared.lasting.Lasting.{Lasting}
 use Rattle.chain_search.specs.Leavings.{Leaving}
@@ -174,7 +174,7 @@ part_below x a = in_below (bit_and x a) x (λ i. let same = bit_at_and x a i in 
 
 module _ {A B S T E F : Type 0} (extend_a : A → S → Option A) (done_a : A → E → Bool) (extend_b : B → T → Option B) (done_b : B → F → Bool)
     (graph : GraphOf (Pair A (Pair Mask B)) (S × (MaskStep × T)) (E × (MaskEnd × F))) where
-  pub lasting_is_rest : (rest : Lasting) (back : ℕ) → rest.sink + 1 ≡ graph.places → back ≡ graph.places → IsGraph graph.places graph.arcs → rest.end ≡ graph.end.1.0
+  pub lasting_is_rest : (rest : Lasting) (back : ℕ) → rest.sink + 1 ≡ graph.places → back ≡ graph.places → IsGraph graph.places graph.arcs → rest.last.end ≡ graph.end.1.0
       → Kept (λ (step : S × (MaskStep × T)). step.1.0.clear) rest.sink graph.arcs rest.rows.items back
       → IsRest (pair_extend extend_a (pair_extend mask_extend extend_b)) (pair_done done_a (pair_done mask_done done_b)) graph (lasting rest)
   lasting_is_rest rest back sink all fit end_is kept = record {
@@ -189,17 +189,17 @@ module _ {A B S T E F : Type 0} (extend_a : A → S → Option A) (done_a : A �
         let clears = subst (λ n. IsIn (get_or rest.rows.items (rest.sink - n) 0) (2 ^ 64 - 1 - takes.arc.step.1.0.clear)) from (kept.clears number takes.arc takes.is (omega (arith, sink, forward, within)) (omega (arith, sink, all))) in
         let less = kept.falls (rest.sink - b.place) (rest.sink - a.place) (omega (arith, forward, from, to)) (omega (arith, sink, all)) in
         falls_by
-        (mask_done (record { bits = bit_and a.resource.second.first.bits (get_or rest.rows.items (rest.sink - a.place) 0) }) rest.end)
-        (mask_done (record { bits = bit_and b.resource.second.first.bits (get_or rest.rows.items (rest.sink - b.place) 0) }) rest.end)
+        (mask_done (record { bits = bit_and a.resource.second.first.bits (get_or rest.rows.items (rest.sink - a.place) 0) }) rest.last.end)
+        (mask_done (record { bits = bit_and b.resource.second.first.bits (get_or rest.rows.items (rest.sink - b.place) 0) }) rest.last.end)
         ((rest.sink - b.place) * 2 ^ 40) ((rest.sink - a.place) * 2 ^ 40) a.gain b.gain
-        (done_before a.resource.second.first.bits b.resource.second.first.bits (2 ^ 64 - 1 - takes.arc.step.1.0.clear) takes.arc.step.1.0.set (get_or rest.rows.items (rest.sink - a.place) 0) (get_or rest.rows.items (rest.sink - b.place) 0) rest.end
+        (done_before a.resource.second.first.bits b.resource.second.first.bits (2 ^ 64 - 1 - takes.arc.step.1.0.clear) takes.arc.step.1.0.set (get_or rest.rows.items (rest.sink - a.place) 0) (get_or rest.rows.items (rest.sink - b.place) 0) rest.last.end
         (bits_of (bit_or (bit_and a.resource.second.first.bits (2 ^ 64 - 1 - takes.arc.step.1.0.clear)) takes.arc.step.1.0.set) b.resource.second.first extends) clears less)
         (more_gain (rest.sink - b.place) (rest.sink - a.place) ((rest.sink - b.place) * 2 ^ 40) ((rest.sink - a.place) * 2 ^ 40) takes.arc.gain a.gain b.gain
         (omega (arith, forward, within, from, to, sink)) takes.gain fits.gain_high refl refl);
     ends = λ last is.
         let mask = and_parts (mask_done last.second.first graph.end.1.0) (done_b last.second.second graph.end.1.1) (and_parts (done_a last.first graph.end.0) (pair_done mask_done done_b last.second graph.end.1) is).1 in
-        no_loss (mask_done (record { bits = bit_and last.second.first.bits (get_or rest.rows.items (rest.sink - (graph.places - 1)) 0) }) rest.end) ((rest.sink - (graph.places - 1)) * 2 ^ 40)
-        (mask_resource_laws.finishes (record { bits = bit_and last.second.first.bits (get_or rest.rows.items (rest.sink - (graph.places - 1)) 0) }) last.second.first rest.end
+        no_loss (mask_done (record { bits = bit_and last.second.first.bits (get_or rest.rows.items (rest.sink - (graph.places - 1)) 0) }) rest.last.end) ((rest.sink - (graph.places - 1)) * 2 ^ 40)
+        (mask_resource_laws.finishes (record { bits = bit_and last.second.first.bits (get_or rest.rows.items (rest.sink - (graph.places - 1)) 0) }) last.second.first rest.last.end
         (part_below last.second.first.bits (get_or rest.rows.items (rest.sink - (graph.places - 1)) 0))
         (subst (λ (e : MaskEnd). mask_done last.second.first e ≡ true) (sym end_is) mask.0));
   }

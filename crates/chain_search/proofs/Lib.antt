@@ -3,8 +3,11 @@ pub mod LeavingArcs
 pub mod RestLemmas
 pub mod Walking
 pub mod Hunting
+pub mod Climbing
 pub mod BitLoops
 pub mod BitChoice
 pub mod Marked
 pub mod TableRows
+pub mod Raising
+pub mod SetWeights
 pub mod LastingBits

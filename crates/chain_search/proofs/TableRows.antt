@@ -44,7 +44,7 @@ pub record Filled {S : Type 0} (moves : S → ℕ → Option ℕ) (ends : ℕ �
   pub on : (number : ℕ) (arc : Arc S) → slice_get arcs number ≡ Some arc → places ≤ arc.from + back → (state next : ℕ) → state < count → moves arc.step state ≡ Some next
       → (get_or table ((places - 1 - arc.to) * count + next) (pos 0) +ℤ arc.gain) ≤ℤ get_or table ((places - 1 - arc.from) * count + state) (pos 0)
 
-less_or_not : (a b : ℕ) → (a < b) ⊎ (b ≤ a)
+pub less_or_not : (a b : ℕ) → (a < b) ⊎ (b ≤ a)
 less_or_not a b = grind arith
 
 more_mul : (a u : ℕ) → (a + 1) * u ≡ a * u + u

@@ -1,5 +1,5 @@
 -- Chains on from a label, and what they gain.
-use Rattle.std.proofs.Common.{◌≡◌, ◌≢◌, ℕ, ℤ, pos, ◌-◌, ◌<◌, ◌+ℤ◌, ◌≤ℤ◌, List, [], ◌∷◌, ◌++◌, Bool, true, Option, Some, refl, sym, ◌∙◌, ap, subst, arith, length}
+use Rattle.std.proofs.Common.{◌≡◌, ◌≢◌, ℕ, ℤ, ◌-◌, ◌<◌, ◌+ℤ◌, ◌≤ℤ◌, List, [], ◌∷◌, ◌++◌, Bool, true, Option, Some, refl, sym, ◌∙◌, ap, subst, arith, length}
 use Rattle.std.specs.Prelude.{All, int_le, slice_get}
 use Rattle.std.proofs.lemmas.Bool.{and_parts}
 use Rattle.std.proofs.lemmas.Int.{ints}
@@ -12,7 +12,7 @@ use Rattle.chain_search.specs.declared.marks.Mark.{Mark}
 use Rattle.chain_search.specs.Bounds.{IsBound}
 use Rattle.chain_search.specs.Leavings.{Leaving}
 use Rattle.chain_search.specs.Marking.{dispenses}
-use Rattle.chain_search.specs.Searches.{NoneAbove, reached_mark}
+use Rattle.chain_search.specs.Searches.{NoneAboveFrom, reached_mark}
 use Rattle.chain_search.proofs.ListReads.{contains_read, read_contains, same_some}
 
 pub le_through : (a b c : ℤ) → a ≤ℤ b → b ≤ℤ c → a ≤ℤ c
@@ -48,10 +48,10 @@ module _ {R S E : Type 0} (extend : R → S → Option R) (done : R → E → Bo
   -- none is above by the first of the arcs
   abbrev pub NoneByFirst : Reached R → List ℕ → ℕ → Type 0
   NoneByFirst label numbers count =
-      (k number : ℕ) (next : Reached R) → k < count → slice_get numbers k ≡ Some number → Takes extend graph.arcs label number next → NoneAbove extend done graph over next
+      (k number : ℕ) (next : Reached R) → k < count → slice_get numbers k ≡ Some number → Takes extend graph.arcs label number next → NoneAboveFrom extend done graph over next
 
-  pub none_by_all : (label : Reached R) (numbers : List ℕ) → label.place ≢ graph.places - 1 → Leaving graph.arcs label.place numbers → NoneByFirst label numbers (length numbers) → NoneAbove extend done graph over label
-  unfolding NoneAbove
+  pub none_by_all : (label : Reached R) (numbers : List ℕ) → label.place ≢ graph.places - 1 → Leaving graph.arcs label.place numbers → NoneByFirst label numbers (length numbers) → NoneAboveFrom extend done graph over label
+  unfolding NoneAboveFrom
   none_by_all label numbers before leaving all [] gain last leads is_done = absurd (before (ap (λ (r : Reached R). r.place) leads))
   none_by_all label numbers before leaving all (number ∷ chain) gain last leads is_done =
       let takes = leads.1 in
@@ -59,8 +59,8 @@ module _ {R S E : Type 0} (extend : R → S → Option R) (done : R → E → Bo
       all listed.0 number leads.0 listed.1 (read_contains numbers number listed) takes chain gain last leads.2 is_done
 
   -- at the sink no arc goes on
-  pub none_at_sink : (label : Reached R) → IsGraph graph.places graph.arcs → label.place ≡ graph.places - 1 → (done label.resource graph.end ≡ true → label.gain ≤ℤ over) → NoneAbove extend done graph over label
-  unfolding NoneAbove
+  pub none_at_sink : (label : Reached R) → IsGraph graph.places graph.arcs → label.place ≡ graph.places - 1 → (done label.resource graph.end ≡ true → label.gain ≤ℤ over) → NoneAboveFrom extend done graph over label
+  unfolding NoneAboveFrom
   none_at_sink label fit at below [] gain last leads is_done =
       let same : label.gain ≡ gain = ap (λ (r : Reached R). r.gain) leads in
       let ends : done label.resource graph.end ≡ true = ap (λ (r : Reached R). done r.resource graph.end) leads ∙ is_done in
@@ -74,8 +74,8 @@ module _ {R S E : Type 0} (extend : R → S → Option R) (done : R → E → Bo
       absurd (omega (arith, forward, within, from, at))
 
   -- where what may still be gained is too little
-  pub none_in_rest : (rest : ℕ → R → ℤ) → IsBound extend done graph rest → (label : Reached R) → (label.gain +ℤ rest label.place label.resource) ≤ℤ over → NoneAbove extend done graph over label
-  unfolding NoneAbove
+  pub none_in_rest : (rest : ℕ → R → ℤ) → IsBound extend done graph rest → (label : Reached R) → (label.gain +ℤ rest label.place label.resource) ≤ℤ over → NoneAboveFrom extend done graph over label
+  unfolding NoneAboveFrom
   none_in_rest rest bound label most chain gain last leads is_done = le_through gain (label.gain +ℤ rest label.place label.resource) over (bound label chain gain last leads is_done) most
 
   -- a mark that dispenses with a label
@@ -113,19 +113,19 @@ module _ {R S E : Type 0} (extend : R → S → Option R) (done : R → E → Bo
     at_sink : (label end : Reached R) (chain : List ℕ) → end.place ≡ graph.places - 1 → Leads extend graph.arcs label chain end → Leads extend graph.arcs label chain (record { place = graph.places - 1; gain = end.gain; resource = end.resource })
     at_sink label end chain place leads = subst (λ (p : ℕ). Leads extend graph.arcs label chain (record { place = p; gain = end.gain; resource = end.resource })) place leads
 
-    none_by : (by label : Reached R) → by.place ≡ label.place → label.gain ≤ℤ by.gain → below by.resource label.resource ≡ true → NoneAbove extend done graph over by → NoneAbove extend done graph over label
-    unfolding NoneAbove
+    none_by : (by label : Reached R) → by.place ≡ label.place → label.gain ≤ℤ by.gain → below by.resource label.resource ≡ true → NoneAboveFrom extend done graph over by → NoneAboveFrom extend done graph over label
+    unfolding NoneAboveFrom
     none_by by label place gain is_below none chain best last leads is_done =
         let end : Reached R = record { place = graph.places - 1; gain = best; resource = last } in
         let lifted = lift by label end chain place gain is_below leads in
         le_through best lifted.to.gain over lifted.gain
         (none chain lifted.to.gain lifted.to.resource (at_sink by lifted.to chain lifted.place lifted.leads) (laws.finishes lifted.to.resource last graph.end lifted.is_below is_done))
 
-    pub none_dispensed : (place : ℕ) (mark : Mark R) (gain : ℤ) (resource : R) → dispenses below mark gain resource ≡ true → NoneAbove extend done graph over (reached_mark place mark) → NoneAbove extend done graph over (record { place = place; gain = gain; resource = resource })
+    pub none_dispensed : (place : ℕ) (mark : Mark R) (gain : ℤ) (resource : R) → dispenses below mark gain resource ≡ true → NoneAboveFrom extend done graph over (reached_mark place mark) → NoneAboveFrom extend done graph over (record { place = place; gain = gain; resource = resource })
     none_dispensed place mark gain resource is none =
         let parts = and_parts (int_le gain mark.gain) (below mark.resource resource) is in
         none_by (reached_mark place mark) (record { place = place; gain = gain; resource = resource }) refl (le_means gain mark.gain parts.0) parts.1 none
 
-  pub none_feasible : NoneAbove extend done graph over (source graph.start) → (chain : List ℕ) (gain : ℤ) → IsFeasible extend done graph chain gain → gain ≤ℤ over
-  unfolding NoneAbove
+  pub none_feasible : NoneAboveFrom extend done graph over (source graph.start) → (chain : List ℕ) (gain : ℤ) → IsFeasible extend done graph chain gain → gain ≤ℤ over
+  unfolding NoneAboveFrom
   none_feasible none chain gain feasible = none chain gain feasible.last feasible.leads feasible.is_done

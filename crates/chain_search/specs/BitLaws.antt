@@ -60,7 +60,7 @@ state_below (bit ∷ chosen) bits =
     omega (arith, less, twice, low)
 
 -- all weights before a place
-total : List ℕ → ℕ → ℕ
+unfoldable pub total : List ℕ → ℕ → ℕ
 total weights zero = 0
 total weights (suc k) = total weights k + slice_index weights k
 
@@ -144,7 +144,7 @@ unfolding total
 total_tail weight weights zero = omega arith
 total_tail weight weights (suc k) = let before = total_tail weight weights k in omega (arith, before)
 
-total_is : (weights : List ℕ) → total weights (length weights) ≡ sum weights
+pub total_is : (weights : List ℕ) → total weights (length weights) ≡ sum weights
 unfolding total
 total_is [] = refl
 total_is (weight ∷ weights) = total_tail weight weights (length weights) ∙ (ap (λ n. weight + n) (total_is weights) ∙ sym (sum_by-cons (λ (n : ℕ). n) weight weights))

@@ -13,6 +13,6 @@ IsIn a b = (i : ℕ) → bit_at a i ≤ bit_at b i
 -- what so many arcs may gain, and far less where the bits that last weigh too much
 abbrev pub lasting : {A B : Type 0} → Lasting → ℕ → Pair A (Pair Mask B) → ℤ
 lasting rest place a =
-    if mask_done (record { bits = bit_and a.second.first.bits (get_or rest.rows.items (rest.sink - place) 0) }) rest.end
+    if mask_done (record { bits = bit_and a.second.first.bits (get_or rest.rows.items (rest.sink - place) 0) }) rest.last.end
     then pos ((rest.sink - place) * 2 ^ 40)
     else (pos ((rest.sink - place) * 2 ^ 40) +ℤ neg_ℤ (pos (2 ^ 60)))

@@ -1,4 +1,4 @@
-pub mod Answers
+pub mod Climbs
 pub mod Leavings
 pub mod Marking
 pub mod Searches
@@ -10,6 +10,7 @@ pub mod Tables
 pub mod Blinds
 pub mod Rooms
 pub mod RoomLaws
+pub mod Shifts
 pub mod Dues
 pub mod DueLaws
 pub mod BitStates

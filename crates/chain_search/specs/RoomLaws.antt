@@ -1,6 +1,6 @@
 -- The laws of `Room`.
 use Rattle.std.specs.Prelude.{◌≡◌, ◌<◌, ◌≤◌, ◌+◌, ◌-◌, ◌*◌, ◌/◌, ◌==◌, ◌^◌, ℕ, min, zero, suc, Bool, Some, None, true, false, nat_le, refl}
-use Rattle.std.proofs.Common.{arith, sym, ◌∙◌, ap, subst, cond}
+use Rattle.std.proofs.Common.{arith, sym, ap, subst, cond}
 use Rattle.std.proofs.lemmas.Bool.Decides.{nat_tests}
 use Rattle.std.proofs.Math.Nat.{div-zero, div-mul-le_self}
 use Rattle.std.proofs.lemmas.Nat.{le-div}

@@ -1,5 +1,5 @@
 -- Rows of what chains may still gain, while a table is made.
-use Rattle.std.specs.Prelude.{◌≡◌, ◌⊎◌, ◌+◌, ◌-◌, ◌*◌, ◌^◌, ◌<◌, ◌≤ℤ◌, ◌+ℤ◌, neg_ℤ, pos, ℕ, ℤ, List, Option, Some, get_or, length, slice_get}
+use Rattle.std.specs.Prelude.{◌≡◌, ◌⊎◌, ◌+◌, ◌-◌, ◌*◌, ◌^◌, ◌<◌, ◌≤ℤ◌, ◌+ℤ◌, neg_ℤ, pos, ℕ, ℤ, List, Option, Some, None, get_or, if◌then◌else◌, length, nat_lt, slice_get}
 use Rattle.label_setter.specs.declared.graph.Arc.{Arc}
 
 -- no number is below what is impossible, or above what so many arcs may gain
@@ -23,6 +23,16 @@ pub record RaisedBy (moves : ℕ → Option ℕ) (there : List ℤ) (gain : ℤ)
       (state : ℕ)
       → (get_or new state (pos 0) ≡ get_or old state (pos 0)) ⊎ IsBack moves there gain state (get_or new state (pos 0))
   pub between : (arcs : ℕ) → IsBetween arcs there → IsBetween (arcs + 1) old → IsBetween (arcs + 1) new
+
+-- the lowest state, from so many first ones
+abbrev pub none_from : ℕ → ℕ → Option ℕ
+none_from below state = if nat_lt state below then Some 0 else None
+
+-- the arc leads to the next place, gains nothing there and leaves each state as it is
+pub record PassesOn {S : Type 0} (moves : S → ℕ → Option ℕ) (count place : ℕ) (arc : Arc S) : Type 0 where
+  pub to : arc.to ≡ place + 1
+  pub gain : arc.gain ≡ pos 0
+  pub stays : (state : ℕ) → state < count → moves arc.step state ≡ Some state
 
 -- the numbers of the row are at least what the arc gains before those of the place where it leads
 abbrev pub GoesBack : {S : Type 0} → (S → ℕ → Option ℕ) → ℕ → ℕ → List ℤ → List ℤ → Arc S → Type 0

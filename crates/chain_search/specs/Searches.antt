@@ -8,9 +8,9 @@ use Rattle.chain_search.specs.declared.turns.Open.{Open}
 use Rattle.chain_search.specs.Marking.{Stands}
 
 -- each chain that leads from the label to a done end at the sink gains at most the bound
-unfoldable pub NoneAbove :
+unfoldable pub NoneAboveFrom :
     {R S E : Type 0} → (R → S → Option R) → (R → E → Bool) → GraphOf R S E → ℤ → Reached R → Type 0
-NoneAbove {R} extend done graph over label =
+NoneAboveFrom {R} extend done graph over label =
     (chain : List ℕ) (gain : ℤ) (last : R)
     → Leads extend graph.arcs label chain (record { place = graph.places - 1; gain = gain; resource = last })
     → done last graph.end ≡ true → gain ≤ℤ over
@@ -60,23 +60,26 @@ pub record ComesFrom {R S E : Type 0} (extend : R → S → Option R) (graph : G
   pub inside : next.place < graph.places
   pub within : IsWithin next.place next.gain
 
--- labels that come from this one are added to those that wait, and where nothing is above the bound from those, nothing
--- is from this one
+-- labels that come from this one are added to those that wait, and where nothing is above the bound, or above a greater
+-- one, from those, nothing is from this one
 pub record Spreads {R S E : Type 0} (extend : R → S → Option R) (done : R → E → Bool) (graph : GraphOf R S E)
     (over : ℤ) (label : Label R) (old new : List (Open R)) : Type 0 where
   pub more : List (Open R)
   pub added : new ≡ old ++ more
   pub come : All (ComesFrom extend graph label) more
   pub none :
-      All (λ next. NoneAbove extend done graph over (reached_open next)) more
-      → NoneAbove extend done graph over (reached_label label)
+      (most : ℤ) → over ≤ℤ most
+      → All (λ next. NoneAboveFrom extend done graph most (reached_open next)) more
+      → NoneAboveFrom extend done graph most (reached_label label)
 
--- where nothing is above the bound from any label that waits at this place or later, nothing is from this label
+-- where nothing is above the bound, or above a greater one, from any label that waits at this place or later, nothing is
+-- from this label
 pub record Owes {R S E : Type 0} (extend : R → S → Option R) (done : R → E → Bool) (graph : GraphOf R S E)
     (over : ℤ) (waiting : List (Open R)) (place : ℕ) (label : Reached R) : Type 0 where
   pub none :
-      All (λ other. place ≤ other.place → NoneAbove extend done graph over (reached_open other)) waiting
-      → NoneAbove extend done graph over label
+      (most : ℤ) → over ≤ℤ most
+      → All (λ other. place ≤ other.place → NoneAboveFrom extend done graph most (reached_open other)) waiting
+      → NoneAboveFrom extend done graph most label
 
 -- the first arcs of the path, and its own arc, lead to the label
 pub record IsOnPath {R S E : Type 0} (extend : R → S → Option R) (graph : GraphOf R S E) (path : List ℕ)

@@ -7,6 +7,7 @@ ghost use Rattle.chain_search.specs.BitLaws.{bits_laws};
 
 use crate::chosen::{Bits, Chosen};
 use crate::coarse::Coarse;
+use crate::shifts::Shift;
 use duty_calendar::Memory;
 use label_lattice::{Mask, MaskEnd, MaskStep};
 use std::alloc::Global;
@@ -66,7 +67,7 @@ fn weight_of(chosen: &[Chosen], state: u32) -> u64
 }
 
 /// The weights of an end together.
-fn all_weights(weights: &[u32; 64]) -> u64
+pub(crate) fn all_weights(weights: &[u32; 64]) -> u64
     ensures total { result ≡ sum weights.now }
     ensures small { result < 2 ^ 39 }
 {
@@ -130,6 +131,13 @@ impl Bits {
         let allowed = all_weights(&end.weights).saturating_sub(u64::from(end.floor));
         Ok(Bits { chosen, allowed })
     }
+
+    /// All chosen bits as a state.
+    fn all(&self) -> u32
+        ensures all { result ≡ bits_count self.now - 1 }
+    {
+        (1 << self.chosen.len()) - 1
+    }
 }
 
 impl Coarse<Mask> for Bits {
@@ -161,6 +169,14 @@ impl Coarse<Mask> for Bits {
 
     fn moves(by: &BitsMove, state: u32) -> Option<u32> {
         Some(state & by.keep | by.set)
+    }
+
+    fn shift(&self, by: &BitsMove) -> Shift {
+        if by.set == 0 && by.keep == self.all() {
+            Shift::Floor(0)
+        } else {
+            Shift::Own
+        }
     }
 
     fn move_of(&self, step: &MaskStep) -> BitsMove {

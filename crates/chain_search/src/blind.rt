@@ -4,6 +4,7 @@ ghost use Rattle.std.specs.Prelude.{Some, true};
 ghost use Rattle.chain_search.specs.Blinds.{blind_laws};
 
 use crate::coarse::Coarse;
+use crate::shifts::Shift;
 use label_lattice::Resource;
 
 /// One state for all resources, so that gains alone count. It follows each graph.
@@ -39,6 +40,10 @@ impl<R: Resource> Coarse<R> for Blind {
 
     fn moves(_by: &(), _state: u32) -> Option<u32> {
         Some(0)
+    }
+
+    fn shift(&self, _by: &()) -> Shift {
+        Shift::Floor(0)
     }
 
     fn move_of(&self, _step: &R::Step) {}

@@ -1,9 +1,11 @@
 //! What resources look like from afar.
 
-ghost use Rattle.std.specs.Prelude.{◌≡◌, ◌≤◌, ◌^◌, ℕ, Bool, Option};
+ghost use Rattle.std.specs.Prelude.{◌≡◌, ◌<◌, ◌≤◌, ◌^◌, ℕ, Bool, Option};
 ghost use Rattle.std.specs.List.{list_all};
+ghost use Rattle.chain_search.specs.Shifts.{IsShifted};
 ghost use Rattle.chain_search.specs.Views.{CoarseLaws, follows};
 
+use crate::shifts::Shift;
 use label_lattice::Resource;
 use label_setter::{Arc, Graph};
 
@@ -46,6 +48,10 @@ pub trait Coarse<R: Resource> {
 
     fn moves(by: &Self::Move, state: u32) -> Option<u32>
         ensures moves { result ≡ moves by.now state };
+
+    /// The move in one word, as far as it goes on states that are counted.
+    fn shift(&self, by: &Self::Move) -> Shift
+        ensures shift { (state : ℕ) → state < count self.now → IsShifted result state (moves by.now state) };
 
     fn move_of(&self, step: &R::Step) -> Self::Move
         ensures is_move { result ≡ move_of self.now step.now };

@@ -6,6 +6,7 @@ ghost use Rattle.chain_search.specs.DueLaws.{due_laws};
 
 use crate::coarse::Coarse;
 use crate::rooms::units_in;
+use crate::shifts::Shift;
 use label_lattice::{Span, SpanEnd, SpanStep};
 
 /// How many units, a part of one counted whole, `up` is below the low end. A part of a unit that a step adds counts
@@ -57,6 +58,10 @@ impl Coarse<Span> for Due {
 
     fn moves(by: &u32, state: u32) -> Option<u32> {
         Some(state.saturating_sub(*by))
+    }
+
+    fn shift(&self, by: &u32) -> Shift {
+        Shift::Floor(*by)
     }
 
     fn move_of(&self, step: &SpanStep) -> u32 {

@@ -10,8 +10,9 @@ ghost use Rattle.chain_search.specs.Leavings.{AreWays};
 ghost use Rattle.chain_search.specs.Lastings.{IsIn, lasting};
 
 use crate::ways::{Ways, sink_of};
+use crate::weighed::Weighed;
 use duty_calendar::Memory;
-use label_lattice::{Mask, MaskEnd, Pair, Resource};
+use label_lattice::{Mask, Pair, Resource};
 use label_setter::{Graph, Rest};
 use std::alloc::Global;
 
@@ -27,7 +28,7 @@ pub struct Lasting {
     /// The bits of the sink, then those of the place before it, and so on.
     rows: Vec<u64>,
     sink: u16,
-    end: MaskEnd,
+    last: Weighed,
 }
 
 /// The bits at this place of the list; none past its end.
@@ -45,11 +46,8 @@ impl<A: Resource, B: Resource> Rest<Pair<A, Pair<Mask, B>>> for Lasting {
     fn rest(&self, place: u32, resource: &Pair<A, Pair<Mask, B>>) -> i64 {
         let back = u32::from(self.sink).saturating_sub(place);
         let lasts = bits_at(&self.rows, back as usize);
-        let mask = Mask {
-            bits: resource.second.first.bits & lasts,
-        };
         let most = i64::from(back) * MOST_GAIN;
-        if mask.done(&self.end) {
+        if self.last.is_done(resource.second.first.bits & lasts) {
             most
         } else {
             most - FAR
@@ -98,6 +96,6 @@ pub fn lasting_rest<A: Resource, B: Resource>(
     Ok(Lasting {
         rows,
         sink: sink as u16,
-        end: graph.end().1.0,
+        last: Weighed::new(graph.end().1.0),
     })
 }

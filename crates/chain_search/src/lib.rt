@@ -1,9 +1,10 @@
-//! Whether a feasible chain of a graph gains more than a bound, and bounds on what chains may still gain.
+//! Feasible chains of a graph that gain more than a bound, each more than the one before, and bounds on what chains may
+//! still gain.
 //!
 //! The search goes down the graph by the arcs that leave each place. A label is let go where what it gained and may
-//! still gain is not above the bound, or where a label from which all ways were tried dispenses with it. What chains
-//! may still gain is read from tables over coarse views of a resource, each with finitely many states, and from the bits
-//! that no later arc clears.
+//! still gain is not above the bound, or where a label from which all ways were tried dispenses with it. The bound rises
+//! to the gain of each chain that is found, and the labels that wait go on. What chains may still gain is read from
+//! tables over coarse views of a resource, each with finitely many states, and from the bits that no later arc clears.
 #![tactic(auto)]
 
 mod bits;
@@ -17,9 +18,11 @@ mod marks;
 mod parts;
 mod rooms;
 mod search;
+mod shifts;
 mod table;
 mod turns;
 mod ways;
+mod weighed;
 
 pub use bits::BitsMove;
 pub use blind::Blind;
@@ -30,7 +33,8 @@ pub use lasting::{Lasting, lasting_rest};
 pub use least::{LeastRest, least_rest};
 pub use parts::{First, Second};
 pub use rooms::Room;
-pub use search::{Answer, find_above};
+pub use search::{Climb, Ended, climb_above};
+pub use shifts::Shift;
 pub use table::{CoarseRest, coarse_rest};
 pub use ways::Ways;
 

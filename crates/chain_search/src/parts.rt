@@ -3,6 +3,7 @@
 ghost use Rattle.chain_search.specs.PartLaws.{first_laws, second_laws};
 
 use crate::coarse::Coarse;
+use crate::shifts::Shift;
 use label_lattice::{Pair, Resource};
 
 /// A view of the first part.
@@ -46,6 +47,10 @@ impl<A: Resource, B: Resource, C: Coarse<A>> Coarse<Pair<A, B>> for First<C> {
 
     fn moves(by: &C::Move, state: u32) -> Option<u32> {
         C::moves(by, state)
+    }
+
+    fn shift(&self, by: &C::Move) -> Shift {
+        self.view.shift(by)
     }
 
     fn move_of(&self, step: &(A::Step, B::Step)) -> C::Move {
@@ -96,6 +101,10 @@ impl<A: Resource, B: Resource, C: Coarse<B>> Coarse<Pair<A, B>> for Second<C> {
 
     fn moves(by: &C::Move, state: u32) -> Option<u32> {
         C::moves(by, state)
+    }
+
+    fn shift(&self, by: &C::Move) -> Shift {
+        self.view.shift(by)
     }
 
     fn move_of(&self, step: &(A::Step, B::Step)) -> C::Move {

@@ -5,6 +5,7 @@ ghost use Rattle.chain_search.specs.Rooms.{less_by, room_count, room_fits, room_
 ghost use Rattle.chain_search.specs.RoomLaws.{room_laws};
 
 use crate::coarse::Coarse;
+use crate::shifts::Shift;
 use label_lattice::{Span, SpanEnd, SpanStep};
 
 /// How many whole units `down` is below the cap. The view follows steps with this cap, and takes off as many whole units
@@ -51,6 +52,10 @@ impl Coarse<Span> for Room {
 
     fn moves(by: &u32, state: u32) -> Option<u32> {
         state.checked_sub(*by)
+    }
+
+    fn shift(&self, by: &u32) -> Shift {
+        Shift::Less(*by)
     }
 
     fn move_of(&self, step: &SpanStep) -> u32 {

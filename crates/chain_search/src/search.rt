@@ -1,15 +1,15 @@
-//! A chain that gains more than a bound, or that there is none.
+//! Chains that gain more than a bound, or that there are none.
 
-ghost use Rattle.std.specs.Prelude.{◌≡◌, ◌+◌, ◌<◌, ◌≤◌, ◌≤ℤ◌, ◌++◌, ◌∷◌, ◌&&◌, [], ℕ, ℤ, IfOk, List, Ok, OnOk, int_lt, length};
+ghost use Rattle.std.specs.Prelude.{◌≡◌, ◌+◌, ◌<◌, ◌≤◌, ◌++◌, ◌∷◌, ◌&&◌, [], IfNone, IfOk, IfSome, Ok, OnOk, int_lt, length, take};
 ghost use Rattle.std.specs.Int.Signed.{◌<ℤ◌};
 ghost use Rattle.label_setter.specs.Chains.{IsFeasible};
 ghost use Rattle.chain_search.specs.Bounds.{IsBound};
-ghost use Rattle.chain_search.specs.Answers.{IfChain};
+ghost use Rattle.chain_search.specs.Climbs.{Climbs};
 ghost use Rattle.chain_search.specs.Leavings.{AreWays};
 ghost use Rattle.chain_search.specs.Searches.{Hunts};
 
 use crate::marks::{Mark, Marks};
-use crate::turns::{Label, Open, spread};
+use crate::turns::{Label, Open, is_outgrown, spread};
 use crate::ways::{Ways, sink_of};
 use duty_calendar::{List, Memory};
 use label_lattice::{Resource, Steps};
@@ -17,15 +17,22 @@ use label_setter::{Above, Graph, Rest, Traced};
 use std::alloc::Global;
 use std::sync::ledger::Ledger;
 
-/// What a search for a chain above a bound answers.
-#[derive(Debug, Drop, PartialEq, Eq)]
-pub enum Answer {
-    /// A feasible chain that gains more than the bound.
-    Chain(Traced),
-    /// No feasible chain gains more than the bound.
-    Nothing,
+/// Why a climb ended.
+#[derive(Clone, Copy, Debug, PartialEq, Eq)]
+pub enum Ended {
+    /// No feasible chain gains more than the best one, or than the bound where none was found.
+    Top,
+    /// As many chains were found as were wanted.
+    Enough,
     /// The limit of steps was reached.
-    Unknown,
+    Limit,
+}
+
+/// The best chain that a climb found, where it found one, and why it ended.
+#[derive(Debug, Drop, PartialEq, Eq)]
+pub struct Climb {
+    pub best: Option<Traced>,
+    pub ended: Ended,
 }
 
 /// What the turn of a label came to.
@@ -69,18 +76,21 @@ fn turn<R: Resource, B: Rest<R>, L: Ledger>(
     requires rest { IsBound R.extend R.done graph.now (B.rest above.now.rest) }
     requires hunts { Hunts R.extend R.done graph.now above.now.over walk.old.path.items walk.old.marks (walk.old.waiting.items ++ next.now ∷ []) }
     ensures goes { result ≡ Ok Outcome.Goes → Hunts R.extend R.done graph.now above.now.over walk.new.path.items walk.new.marks walk.new.waiting.items }
-    ensures comes { result ≡ Ok Outcome.Comes → IsFeasible R.extend R.done graph.now walk.new.path.items next.now.gain }
+    ensures rises { result ≡ Ok Outcome.Comes → Hunts R.extend R.done graph.now next.now.gain walk.new.path.items walk.new.marks walk.new.waiting.items }
+    ensures comes { result ≡ Ok Outcome.Comes → IsFeasible R.extend R.done graph.now (take next.now.before walk.new.path.items ++ next.now.arc ∷ []) next.now.gain }
     ensures above { result ≡ Ok Outcome.Comes → above.now.over <ℤ next.now.gain }
+    ensures along { result ≡ Ok Outcome.Comes → next.now.before ≤ length walk.new.path.items }
     ensures stops { result ≡ Ok Outcome.Stops → walk.new.left ≡ 0 }
     ensures smaller { OnOk result (walk.new.left + length walk.new.waiting.items ≤ walk.old.left + length walk.old.waiting.items) }
     ensures steps { steps.new + walk.new.left ≡ steps.old + walk.old.left }
 {
+    if is_outgrown(above, next) {
+        return Ok(Outcome::Goes);
+    }
     if next.place == sink_of(graph) {
         if !ends_above(graph, above, next) {
             return Ok(Outcome::Goes);
         }
-        walk.path.truncate(next.before);
-        walk.path.push(next.arc)?;
         return Ok(Outcome::Comes);
     }
     if walk.marks.dispense(next.place, next.gain, &next.resource) {
@@ -115,41 +125,34 @@ fn turn<R: Resource, B: Rest<R>, L: Ledger>(
     }
 }
 
-/// A feasible chain from the source to the sink that gains more than the bound, by its arcs, or nothing where no
-/// feasible chain does. Each call of `extend` is one step. Where a step more than the limit were needed the answer is
-/// not known.
-pub fn find_above<R: Resource, B: Rest<R>, L: Ledger>(
+/// The labels after the source wait; nothing where the steps did not suffice for them.
+fn set_out<R: Resource, B: Rest<R>, L: Ledger>(
     alloc: Global,
     graph: &Graph<R>,
     ways: &Ways,
     above: &Above<B>,
     limit: u64,
     steps: &mut Steps<L>,
-) -> Result<Answer, Memory>
+) -> Result<Option<Walk<R>>, Memory>
     requires ways { AreWays graph.now.arcs graph.now.places ways.now }
     requires rest { IsBound R.extend R.done graph.now (B.rest above.now.rest) }
-    ensures attained { IfOk result (λ answer. IfChain answer (λ traced. IsFeasible R.extend R.done graph.now traced.arcs traced.gain)) }
-    ensures above { IfOk result (λ answer. IfChain answer (λ traced. above.now.over <ℤ traced.gain)) }
-    ensures none { result ≡ Ok Answer.Nothing → (chain : List ℕ) (gain : ℤ) → IsFeasible R.extend R.done graph.now chain gain → gain ≤ℤ above.now.over }
-    ensures unknown { result ≡ Ok Answer.Unknown → steps.new ≡ steps.old + limit }
+    ensures hunts { IfOk result (λ answer. IfSome answer (λ walk. Hunts R.extend R.done graph.now above.now.over walk.path.items walk.marks walk.waiting.items)) }
+    ensures few { IfOk result (λ answer. IfSome answer (λ walk. walk.left + length walk.waiting.items ≤ limit)) }
+    ensures left { IfOk result (λ answer. IfSome answer (λ walk. steps.new + walk.left ≡ steps.old + limit)) }
+    ensures out { IfOk result (λ answer. IfNone answer (steps.new ≡ steps.old + limit)) }
     ensures steps { steps.new ≤ steps.old + limit }
 {
-    let sink = sink_of(graph);
-    let start = graph.start();
-    if above.rest.rest(0, &start) <= above.over {
-        return Ok(Answer::Nothing);
-    }
     let mut walk = Walk {
         waiting: Vec::new(alloc),
         path: Vec::new(alloc),
-        marks: Marks::new(alloc, sink)?,
+        marks: Marks::new(alloc, sink_of(graph))?,
         left: limit,
     };
     let label = Label {
         before: 0,
         place: 0,
         gain: 0,
-        resource: start,
+        resource: graph.start(),
     };
     let leaving = ways.from(0);
     if !spread(
@@ -161,20 +164,75 @@ pub fn find_above<R: Resource, B: Rest<R>, L: Ledger>(
         &mut walk.left,
         steps,
     )? {
-        return Ok(Answer::Unknown);
+        return Ok(None);
     }
+    Ok(Some(walk))
+}
+
+/// The chain of a label: the first arcs of the path, and its own.
+fn chain_of<R>(alloc: Global, path: &[u32], next: &Open<R>) -> Result<Traced, Memory>
+    requires along { next.now.before ≤ length path.now }
+    ensures gain { IfOk result (λ traced. traced.gain ≡ next.now.gain) }
+    ensures arcs { IfOk result (λ traced. traced.arcs ≡ take next.now.before path.now ++ next.now.arc ∷ []) }
+{
+    let mut arcs = Vec::new(alloc);
+    arcs.extend_from_slice(&path[..next.before])?;
+    arcs.push(next.arc)?;
+    Ok(Traced {
+        gain: next.gain,
+        arcs: List::from_vec(arcs),
+    })
+}
+
+/// Looks for so many feasible chains from the source to the sink, by their arcs, of which the first gains more than the
+/// bound and each later one more than the one before. Each call of `extend` is one step. Where a step more than the
+/// limit were needed, the climb ends with what it found.
+pub fn climb_above<R: Resource, B: Rest<R> + Drop, L: Ledger>(
+    alloc: Global,
+    graph: &Graph<R>,
+    ways: &Ways,
+    above: Above<B>,
+    chains: u64,
+    limit: u64,
+    steps: &mut Steps<L>,
+) -> Result<Climb, Memory>
+    requires ways { AreWays graph.now.arcs graph.now.places ways.now }
+    requires rest { IsBound R.extend R.done graph.now (B.rest above.rest) }
+    requires some { 0 < chains }
+    ensures climbs { IfOk result (Climbs R.extend R.done graph.now above.over) }
+    ensures enough { IfOk result (λ climb. climb.ended ≡ Ended.Enough → steps.old + chains ≤ steps.new) }
+    ensures limit { IfOk result (λ climb. climb.ended ≡ Ended.Limit → steps.new ≡ steps.old + limit) }
+    ensures steps { steps.new ≤ steps.old + limit }
+{
+    let mut above = above;
+    let mut best: Option<Traced> = None;
+    if above.rest.rest(0, &graph.start()) <= above.over {
+        let ended = Ended::Top;
+        return Ok(Climb { best, ended });
+    }
+    let Some(mut walk) = set_out(alloc, graph, ways, &above, limit, steps)? else {
+        let ended = Ended::Limit;
+        return Ok(Climb { best, ended });
+    };
+    let mut wanted = chains;
     while let Some(next) = walk.waiting.pop() {
-        match turn(graph, ways, above, &next, &mut walk, steps)? {
+        match turn(graph, ways, &above, &next, &mut walk, steps)? {
             Outcome::Goes => {}
-            Outcome::Stops => return Ok(Answer::Unknown),
+            Outcome::Stops => {
+                let ended = Ended::Limit;
+                return Ok(Climb { best, ended });
+            }
             Outcome::Comes => {
-                let arcs = List::from_vec(walk.path);
-                return Ok(Answer::Chain(Traced {
-                    gain: next.gain,
-                    arcs,
-                }));
+                above.over = next.gain;
+                best = Some(chain_of(alloc, &walk.path, &next)?);
+                wanted -= 1;
+                if wanted == 0 {
+                    let ended = Ended::Enough;
+                    return Ok(Climb { best, ended });
+                }
             }
         }
     }
-    Ok(Answer::Nothing)
+    let ended = Ended::Top;
+    Ok(Climb { best, ended })
 }

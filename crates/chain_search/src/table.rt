@@ -6,11 +6,13 @@ ghost use Rattle.label_setter.specs.Graphs.{IsGraph};
 ghost use Rattle.chain_search.specs.Bounds.{IsBound};
 ghost use Rattle.chain_search.specs.Leavings.{AreWays, Leaving};
 ghost use Rattle.chain_search.specs.Views.{follows};
-ghost use Rattle.chain_search.specs.Rows.{GoesBack, IsBetween, IsLowOrBack, RaisedBy};
+ghost use Rattle.chain_search.specs.Rooms.{less_by};
+ghost use Rattle.chain_search.specs.Rows.{GoesBack, IsBetween, IsLowOrBack, PassesOn, RaisedBy, none_from};
 ghost use Rattle.chain_search.specs.SeenChains.{IsSeenOrLow};
 ghost use Rattle.chain_search.specs.Tables.{rested};
 
 use crate::coarse::Coarse;
+use crate::shifts::Shift;
 use crate::ways::{Ways, sink_of};
 use duty_calendar::Memory;
 use label_lattice::Resource;
@@ -91,8 +93,49 @@ fn higher<S>(old: &i64, after: &i64, arc: &Arc<S>) -> i64
     if *old < most { most } else { *old }
 }
 
-/// Raises the numbers of a place to what an arc gains before those of the place where it leads.
-fn raise<R: Resource, C: Coarse<R>>(
+/// Raises the numbers of a place by those that stand so many states below in another row.
+fn raise_above<S>(here: &mut [i64], there: &[i64], down: usize, arc: &Arc<S>)
+    requires long { length here.old ≤ length there.now + down }
+    requires between { IsBetween 2000 there.now }
+    requires low { neg_ℤ (pos (2 ^ 40)) ≤ℤ arc.now.gain }
+    requires high { arc.now.gain ≤ℤ pos (2 ^ 40) }
+    ensures raised { RaisedBy (less_by down) there.now arc.now.gain here.old here.new }
+{
+    for state in down..here.len() {
+        let most = higher(&here[state], &there[state - down], arc);
+        here[state] = most;
+    }
+}
+
+/// Raises the numbers of the first so many states of a place by the first one of another row.
+fn raise_below<S>(here: &mut [i64], there: &[i64], below: usize, arc: &Arc<S>)
+    requires some { 0 < length here.old → 0 < length there.now }
+    requires between { IsBetween 2000 there.now }
+    requires low { neg_ℤ (pos (2 ^ 40)) ≤ℤ arc.now.gain }
+    requires high { arc.now.gain ≤ℤ pos (2 ^ 40) }
+    ensures raised { RaisedBy (none_from below) there.now arc.now.gain here.old here.new }
+{
+    for state in 0..below.min(here.len()) {
+        let most = higher(&here[state], &there[0], arc);
+        here[state] = most;
+    }
+}
+
+/// Raises the numbers of a place by those that stand so many states below in another row, or by the first one.
+fn raise_all<S>(here: &mut [i64], there: &[i64], down: usize, arc: &Arc<S>)
+    requires long { length here.old ≤ length there.now + down }
+    requires some { 0 < length here.old → 0 < length there.now }
+    requires between { IsBetween 2000 there.now }
+    requires low { neg_ℤ (pos (2 ^ 40)) ≤ℤ arc.now.gain }
+    requires high { arc.now.gain ≤ℤ pos (2 ^ 40) }
+    ensures raised { RaisedBy (λ state. Some (state - down)) there.now arc.now.gain here.old here.new }
+{
+    raise_below(here, there, down, arc);
+    raise_above(here, there, down, arc);
+}
+
+/// Raises the numbers of a place state by state.
+fn raise_each<R: Resource, C: Coarse<R>>(
     here: &mut [i64],
     there: &[i64],
     arc: &Arc<R::Step>,
@@ -114,6 +157,24 @@ fn raise<R: Resource, C: Coarse<R>>(
     }
 }
 
+/// Raises the numbers of a place to what an arc gains before those of the place where it leads.
+fn raise<R: Resource, C: Coarse<R>>(here: &mut [i64], there: &[i64], arc: &Arc<R::Step>, coarse: &C)
+    requires wide { length here.old ≡ C.count coarse.now }
+    requires few { length here.old ≤ 2 ^ 32 }
+    requires stays { (state next : ℕ) → state < length here.old → C.moves (C.move_of coarse.now arc.now.step) state ≡ Some next → next < length there.now }
+    requires between { IsBetween 2000 there.now }
+    requires low { neg_ℤ (pos (2 ^ 40)) ≤ℤ arc.now.gain }
+    requires high { arc.now.gain ≤ℤ pos (2 ^ 40) }
+    ensures raised { RaisedBy (C.moves (C.move_of coarse.now arc.now.step)) there.now arc.now.gain here.old here.new }
+{
+    let by = coarse.move_of(&arc.step);
+    match coarse.shift(&by) {
+        Shift::Less(down) => raise_above(here, there, down as usize, arc),
+        Shift::Floor(down) => raise_all(here, there, down as usize, arc),
+        Shift::Own => raise_each::<R, C>(here, there, arc, &by),
+    }
+}
+
 /// The row of the table that stands so far back from the sink.
 fn row_of(table: &[i64], back: usize, count: usize) -> &[i64]
     requires within { (back + 1) * count ≤ length table.now }
@@ -124,7 +185,51 @@ fn row_of(table: &[i64], back: usize, count: usize) -> &[i64]
     &table[first..first + count]
 }
 
-/// The numbers of a place, by the rows of the later ones.
+/// The arc leads to the next place, gains nothing there and leaves all states as they are.
+fn passes_on<R: Resource, C: Coarse<R>>(arc: &Arc<R::Step>, place: u32, coarse: &C) -> bool
+    requires few { place < 2000 }
+    ensures passes { result ≡ true → PassesOn (λ step. C.moves (C.move_of coarse.now step)) (C.count coarse.now) place arc.now }
+{
+    if arc.to != place + 1 || arc.gain != 0 {
+        return false;
+    }
+    let by = coarse.move_of(&arc.step);
+    coarse.shift(&by).stays()
+}
+
+/// How many of the arcs that leave a place, the first one or none, need not be counted in where the numbers of the next
+/// place stay.
+fn passing<R: Resource, C: Coarse<R>>(
+    graph: &Graph<R>,
+    place: u32,
+    leaving: &[u32],
+    coarse: &C,
+) -> usize
+    requires inside { place < graph.now.places }
+    requires leaving { Leaving graph.now.arcs place leaving.now }
+    ensures within { result ≤ length leaving.now }
+    ensures passing { (k number : ℕ) (arc : ArcOf R.Step) → k < result → slice_get leaving.now k ≡ Some number → slice_get graph.now.arcs number ≡ Some arc → PassesOn (λ step. C.moves (C.move_of coarse.now step)) (C.count coarse.now) place arc }
+{
+    if leaving.is_empty() {
+        return 0;
+    }
+    let arcs = graph.arcs();
+    let arc = &arcs[leaving[0] as usize];
+    usize::from(passes_on::<R, C>(arc, place, coarse))
+}
+
+/// Makes all numbers of the row impossible, but where arcs pass on those that it holds.
+fn begin_row(row: &mut [i64], passed: usize)
+    ensures between { passed ≡ 0 → IsBetween 0 row.new }
+    ensures value { passed ≡ 0 → (state : ℕ) → state < length row.new → get_or row.new state (pos 0) ≡ neg_ℤ (pos (2 ^ 60)) }
+    ensures kept { 0 < passed → row.new ≡ row.old }
+{
+    if passed == 0 {
+        clear(row);
+    }
+}
+
+/// The numbers of a place, by the rows of the later ones. The row held those of the next place.
 fn place_row<R: Resource, C: Coarse<R>>(
     row: &mut [i64],
     graph: &Graph<R>,
@@ -133,10 +238,11 @@ fn place_row<R: Resource, C: Coarse<R>>(
     coarse: &C,
     table: &[i64],
 )
-    requires inside { place < graph.now.places }
+    requires inside { place + 1 < graph.now.places }
     requires leaving { Leaving graph.now.arcs place leaving.now }
     requires follows { follows (C.fits_step coarse.now) (C.fits_end coarse.now) graph.now ≡ true }
     requires wide { length row.old ≡ C.count coarse.now }
+    requires last { (state : ℕ) → state < C.count coarse.now → get_or row.old state (pos 0) ≡ get_or table.now ((graph.now.places - 2 - place) * C.count coarse.now + state) (pos 0) }
     requires long { length table.now ≡ (graph.now.places - 1 - place) * C.count coarse.now }
     requires between { IsBetween (graph.now.places - 1 - place) table.now }
     ensures between { IsBetween (graph.now.places - place) row.new }
@@ -145,12 +251,13 @@ fn place_row<R: Resource, C: Coarse<R>>(
 {
     let sink = sink_of(graph);
     let arcs = graph.arcs();
-    clear(row);
-    for &number in leaving {
+    let passed = passing(graph, place, leaving, coarse);
+    begin_row(row, passed);
+    for k in passed..leaving.len() {
+        let number = leaving[k];
         let arc = &arcs[number as usize];
         let there = row_of(table, (sink - arc.to) as usize, coarse.count());
-        let by = coarse.move_of(&arc.step);
-        raise::<R, C>(row, there, arc, &by);
+        raise::<R, C>(row, there, arc, coarse);
     }
 }
 

@@ -71,6 +71,19 @@ fn most_above<R, B: Rest<R>>(above: &Above<B>, label: &Label<R>) -> Option<i64>
     Some(label.gain.saturating_add(rest))
 }
 
+/// Nothing above the bound comes from the label: the bound rose while it waited.
+pub fn is_outgrown<R: Resource, B: Rest<R>>(above: &Above<B>, next: &Open<R>) -> bool
+    ensures low { result ≡ true → (next.now.gain +ℤ B.rest above.now.rest next.now.place next.now.resource) ≤ℤ above.now.over }
+{
+    let label = Label {
+        before: next.before,
+        place: next.place,
+        gain: next.gain,
+        resource: next.resource,
+    };
+    next.most <= above.over && most_above(above, &label).is_none()
+}
+
 /// The label after the arc, where it extends and a chain may come above the bound from there.
 fn enter<R: Resource, B: Rest<R>>(
     above: &Above<B>,

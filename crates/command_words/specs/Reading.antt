@@ -68,7 +68,8 @@ stands words arguments (Some nodes) = has_option words nodes arguments
 -- ---- the commands by the texts that clap found
 
 abbrev pub award_read : List Text → Option Text → Option Command
-award_read words option = if stands words [] option then option_map (λ n. Award n) (nodes_in option) else None
+award_read words option =
+    if stands words [] option then option_map (λ n. Award n) (nodes_in option) else None
 
 abbrev pub name_read : List Text → Option Text → Option Text
 name_read words member = option_and_then (λ name.
@@ -79,7 +80,8 @@ sizes_read words option number members pairings = option_and_then (λ a. option_
     if stands words (a ∷ b ∷ c ∷ []) option then sizes_in a b c else None) pairings) members) number
 
 abbrev pub make_read : List Text → Option Text → Option Text → Option Text → Option Command
-make_read words number members pairings = option_map (λ sizes. Make sizes) (sizes_read words None number members pairings)
+make_read words number members pairings =
+    option_map (λ sizes. Make sizes) (sizes_read words None number members pairings)
 
 abbrev pub trial_read : List Text → Option Text → Option Text → Option Text → Option Text → Option Command
 trial_read words option number members pairings = option_and_then (λ sizes. option_map (λ n. Trial sizes n)

@@ -1,12 +1,11 @@
 //! The commands.
 ghost use Rattle.std.specs.Prelude.{◌≡◌, ◌∷◌, ℕ, List as Sequence, codes, map, option_map, string_bytes, IfOk, IfSome};
-ghost use Rattle.clap.specs.Words.{found_of, first_value};
 ghost use Rattle.command_words.specs.Numbers.{nodes_in, sizes_in};
 ghost use Rattle.command_words.specs.declared.command.Command.TheVariants.{Show};
 ghost use Rattle.command_words.specs.Words.{check_in, command_in, HasLimits};
 ghost use Rattle.command_words.specs.Spelling.{IsSpelt};
 ghost use Rattle.command_words.specs.Reading.{award_read, name_read, sizes_read, make_read, trial_read, named_read};
-ghost use Rattle.command_words.specs.Found.{texts_found};
+ghost use Rattle.command_words.specs.Found.{texts_found, words_of, option_word};
 
 use crate::grammar::parse;
 use crate::number::{number_within, read_long};
@@ -46,7 +45,7 @@ pub enum Command {
 
 /// The number of nodes that an option allows.
 fn nodes_allowed(option: Option<&str>) -> Option<u32>
-    ensures value { result ≡ nodes_in (option_map (λ w. w.now) option.entry) }
+    ensures value { result ≡ nodes_in (option_word option.entry) }
 {
     match option {
         Some(word) => number_within(word, 1, MOST_NODES),
@@ -70,7 +69,7 @@ fn sizes_written(number: &str, members: &str, pairings: &str) -> Option<Sizes>
 
 /// The command `check` with these words behind it.
 fn check(words: &[&str]) -> Option<Command>
-    ensures value { result ≡ check_in (map (λ w. w.now) words.now) }
+    ensures value { result ≡ check_in (words_of words.now) }
 {
     if words.is_empty() {
         Some(Command::Check)
@@ -81,7 +80,7 @@ fn check(words: &[&str]) -> Option<Command>
 
 /// The command `award` with these words behind it.
 fn award(words: &[&str], found: &ArgMatches<'_>) -> Option<Command>
-    ensures value { result ≡ award_read (map (λ w. w.now) words.now) (first_value (found_of found.now) (codes "nodes")) }
+    ensures value { result ≡ award_read (words_of words.now) (texts_found found.now).nodes }
 {
     let option = found.get_str("nodes");
     if !stands(words, &[], option) {
@@ -94,7 +93,7 @@ fn award(words: &[&str], found: &ArgMatches<'_>) -> Option<Command>
 /// The name that the words behind `show` are.
 fn name<'w>(words: &[&str], found: &ArgMatches<'w>) -> Option<&'w str>
     ensures value { option_map (λ n. n.now) result
-        ≡ name_read (map (λ w. w.now) words.now) (first_value (found_of found.now) (codes "member")) }
+        ≡ name_read (words_of words.now) (texts_found found.now).member }
 {
     let name = found.get_str("member")?;
     if !is_argument(name) {
@@ -106,11 +105,12 @@ fn name<'w>(words: &[&str], found: &ArgMatches<'w>) -> Option<&'w str>
     Some(name)
 }
 
-/// The sizes that were read, where the words are their arguments, with this option among them where there is one.
+/// The sizes that were read, where the words are their arguments, with this option among them
+/// where there is one.
 fn sizes_found(words: &[&str], found: &ArgMatches<'_>, option: Option<&str>) -> Option<Sizes>
-    ensures value { result ≡ sizes_read (map (λ w. w.now) words.now) (option_map (λ w. w.now) option.entry)
-        (first_value (found_of found.now) (codes "number")) (first_value (found_of found.now) (codes "members"))
-        (first_value (found_of found.now) (codes "pairings")) }
+    ensures value { result ≡ sizes_read (words_of words.now) (option_word option.entry)
+        (texts_found found.now).number (texts_found found.now).members
+        (texts_found found.now).pairings }
 {
     let number = found.get_str("number")?;
     let members = found.get_str("members")?;
@@ -123,9 +123,9 @@ fn sizes_found(words: &[&str], found: &ArgMatches<'_>, option: Option<&str>) -> 
 
 /// The command `make` with these words behind it.
 fn make(words: &[&str], found: &ArgMatches<'_>) -> Option<Command>
-    ensures value { result ≡ make_read (map (λ w. w.now) words.now)
-        (first_value (found_of found.now) (codes "number")) (first_value (found_of found.now) (codes "members"))
-        (first_value (found_of found.now) (codes "pairings")) }
+    ensures value { result ≡ make_read (words_of words.now)
+        (texts_found found.now).number (texts_found found.now).members
+        (texts_found found.now).pairings }
 {
     let sizes = sizes_found(words, found, None)?;
     Some(Command::Make(sizes))
@@ -133,9 +133,9 @@ fn make(words: &[&str], found: &ArgMatches<'_>) -> Option<Command>
 
 /// The command `trial` with these words behind it.
 fn trial(words: &[&str], found: &ArgMatches<'_>) -> Option<Command>
-    ensures value { result ≡ trial_read (map (λ w. w.now) words.now) (first_value (found_of found.now) (codes "nodes"))
-        (first_value (found_of found.now) (codes "number")) (first_value (found_of found.now) (codes "members"))
-        (first_value (found_of found.now) (codes "pairings")) }
+    ensures value { result ≡ trial_read (words_of words.now) (texts_found found.now).nodes
+        (texts_found found.now).number (texts_found found.now).members
+        (texts_found found.now).pairings }
 {
     let option = found.get_str("nodes");
     let sizes = sizes_found(words, found, option)?;
@@ -154,7 +154,7 @@ fn bytes_of(alloc: Global, text: &str) -> Result<List<u8>, Memory>
 /// The command `show` with these words behind it.
 fn show(alloc: Global, words: &[&str], found: &ArgMatches<'_>) -> Result<Option<Command>, Memory>
     ensures value { IfOk result (λ read. read ≡ option_map (λ n. Show n)
-        (name_read (map (λ w. w.now) words.now) (first_value (found_of found.now) (codes "member")))) }
+        (name_read (words_of words.now) (texts_found found.now).member)) }
 {
     let Some(name) = name(words, found) else {
         return Ok(None);
@@ -171,7 +171,7 @@ fn named(
     found: &ArgMatches<'_>,
 ) -> Result<Option<Command>, Memory>
     ensures value { IfOk result (λ read. read
-        ≡ named_read word.now (map (λ w. w.now) words.now) (texts_found found.now)) }
+        ≡ named_read word.now (words_of words.now) (texts_found found.now)) }
 {
     if word == "check" {
         return Ok(check(words));
@@ -193,7 +193,7 @@ fn named(
 
 /// The command of the texts behind the program's name, if they are one.
 fn command_of(alloc: Global, texts: &[&str]) -> Result<Option<Command>, Memory>
-    ensures value { (words : Sequence (Sequence ℕ)) → map (λ w. w.now) texts.now ≡ codes "pbs" ∷ words
+    ensures value { (words : Sequence (Sequence ℕ)) → words_of texts.now ≡ codes "pbs" ∷ words
         → IfOk result (λ read. read ≡ command_in words) }
 {
     let Some((_, words)) = texts.split_first() else {
@@ -216,7 +216,7 @@ impl Command {
     pub fn from_words(alloc: Global, words: &[String]) -> Result<Option<Command>, Memory>
         ensures value { IfOk result (λ read. read ≡ command_in (map string_bytes words.now)) }
         ensures spelt { IfOk result (IsSpelt (map string_bytes words.now)) }
-        ensures range { IfOk result (λ read. IfSome read HasLimits) }
+        ensures in_range { IfOk result (λ read. IfSome read HasLimits) }
     {
         let mut texts = Vec::new(alloc);
         texts.push("pbs")?;

@@ -1,6 +1,7 @@
 //! The commands, as `clap` is told of them.
-ghost use Rattle.std.specs.Prelude.{◌≡◌, true, false, map, None, IfOk, IfSome, IsOkAnd, codes};
+ghost use Rattle.std.specs.Prelude.{◌≡◌, true, false, None, IfOk, IfSome, IsOkAnd, codes};
 ghost use Rattle.clap.specs.Words.{AddsSubcommand, app_of, new_app, rule_of, subcommand_rows_of, subcommand_of, takes, with_rule};
+ghost use Rattle.command_words.specs.Found.{words_of};
 ghost use Rattle.command_words.specs.Reading.{nodes_rule, needed_rule, sized_app, month_commands, commands};
 
 use clap::error::ErrorKind;
@@ -27,7 +28,8 @@ fn needed<'w>(alloc: Global, id: &'w str) -> Arg<'w>
 /// A command with one argument or option.
 fn with_one<'w>(alloc: Global, name: &'w str, argument: Arg<'w>) -> Result<Grammar<'w>, AllocError>
     requires here { argument.global ≡ false }
-    ensures shape { IfOk result (λ c. app_of c ≡ with_rule (new_app name.entry.now) (rule_of argument.entry)) }
+    ensures shape { IfOk result (λ c. app_of c
+        ≡ with_rule (new_app name.entry.now) (rule_of argument.entry)) }
 {
     Grammar::new(alloc, name).arg(argument)
 }
@@ -54,7 +56,8 @@ fn and_command<'w>(
     program: Grammar<'w>,
     command: Result<Grammar<'w>, AllocError>,
 ) -> Result<Grammar<'w>, AllocError>
-    ensures shape { IfOk result (λ r. IsOkAnd command.entry (λ c. AddsSubcommand program.entry c r)) }
+    ensures shape { IfOk result (λ r.
+        IsOkAnd command.entry (λ c. AddsSubcommand program.entry c r)) }
 {
     match command {
         Ok(command) => program.subcommand(command),
@@ -80,14 +83,16 @@ fn grammar<'w>(alloc: Global) -> Result<Grammar<'w>, AllocError>
     and_command(made, trial(alloc))
 }
 
-/// What `clap` reads from the words, of which the first is the program's name, or nothing where it refuses them.
+/// What `clap` reads from the words, of which the first is the program's name, or nothing where it
+/// refuses them.
 pub(crate) fn parse<'w>(
     alloc: Global,
     words: &'w [&'w str],
 ) -> Result<Option<ArgMatches<'w>>, Memory>
-    ensures refused { IfOk result (λ read. read ≡ None → takes commands (map (λ w. w.now) words.entry.now) ≡ true → ⊥) }
+    ensures refused { IfOk result (λ read. read ≡ None
+        → takes commands (words_of words.entry.now) ≡ true → ⊥) }
     ensures found { IfOk result (λ read. IfSome read (λ m.
-        subcommand_rows_of m ≡ subcommand_of commands (map (λ w. w.now) words.entry.now))) }
+        subcommand_rows_of m ≡ subcommand_of commands (words_of words.entry.now))) }
 {
     let commands = grammar(alloc)?;
     match commands.try_get_matches_from(words) {

@@ -1,7 +1,8 @@
-//! Whether words are what was read from them. This refuses what `clap` takes besides: a word `--`, a lone dash, an
-//! empty name.
-ghost use Rattle.std.specs.Prelude.{◌≡◌, map, option_map};
+//! Whether words are what was read from them. This refuses what `clap` takes besides: a word `--`,
+//! a lone dash, an empty name.
+ghost use Rattle.std.specs.Prelude.{◌≡◌};
 ghost use Rattle.command_words.specs.Words.{is_argument};
+ghost use Rattle.command_words.specs.Found.{words_of, option_word};
 ghost use Rattle.command_words.specs.Reading.{joins, same_words, begins_apart, begins, has_option, stands};
 
 /// Whether the word is `--nodes=` and this number.
@@ -16,14 +17,14 @@ fn joins(word: &str, nodes: &str) -> bool
 
 /// Whether the words are these, one by one.
 fn are_same(words: &[&str], arguments: &[&str]) -> bool
-    ensures value { result ≡ same_words (map (λ w. w.now) words.now) (map (λ w. w.now) arguments.now) }
+    ensures value { result ≡ same_words (words_of words.now) (words_of arguments.now) }
 {
     words == arguments
 }
 
 /// Whether the words are a number, and then these arguments.
 fn begins_apart(words: &[&str], nodes: &str, arguments: &[&str]) -> bool
-    ensures value { result ≡ begins_apart (map (λ w. w.now) words.now) nodes.now (map (λ w. w.now) arguments.now) }
+    ensures value { result ≡ begins_apart (words_of words.now) nodes.now (words_of arguments.now) }
 {
     let Some((value, after)) = words.split_first() else {
         return false;
@@ -33,7 +34,7 @@ fn begins_apart(words: &[&str], nodes: &str, arguments: &[&str]) -> bool
 
 /// Whether the words are an option, in one word or two, and then these arguments.
 fn begins(words: &[&str], nodes: &str, arguments: &[&str]) -> bool
-    ensures value { result ≡ begins (map (λ w. w.now) words.now) nodes.now (map (λ w. w.now) arguments.now) }
+    ensures value { result ≡ begins (words_of words.now) nodes.now (words_of arguments.now) }
 {
     let Some((option, after)) = words.split_first() else {
         return false;
@@ -46,7 +47,7 @@ fn begins(words: &[&str], nodes: &str, arguments: &[&str]) -> bool
 
 /// Whether the words are the arguments in their order, with this option among them.
 fn has_option(words: &[&str], nodes: &str, arguments: &[&str]) -> bool
-    ensures value { result ≡ has_option (map (λ w. w.now) words.now) nodes.now (map (λ w. w.now) arguments.now) }
+    ensures value { result ≡ has_option (words_of words.now) nodes.now (words_of arguments.now) }
 {
     for i in 0..arguments.len() {
         if begins(words.split_at(i).1, nodes, arguments.split_at(i).1) {
@@ -62,10 +63,11 @@ fn has_option(words: &[&str], nodes: &str, arguments: &[&str]) -> bool
     begins(words.split_at(arguments.len()).1, nodes, &[])
 }
 
-/// Whether the words are the arguments in their order, with the option among them where there is one.
+/// Whether the words are the arguments in their order, with the option among them where there is
+/// one.
 pub(crate) fn stands(words: &[&str], arguments: &[&str], option: Option<&str>) -> bool
-    ensures value { result ≡ stands (map (λ w. w.now) words.now) (map (λ w. w.now) arguments.now)
-        (option_map (λ w. w.now) option.entry) }
+    ensures value { result ≡ stands (words_of words.now) (words_of arguments.now)
+        (option_word option.entry) }
 {
     match option {
         Some(nodes) => has_option(words, nodes, arguments),

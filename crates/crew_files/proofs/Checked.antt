@@ -19,14 +19,14 @@ use Rattle.duty_calendar.specs.declared.member.Member.{Member}
 use Rattle.field_text.specs.declared.file_fault.FileCode.{FileCode}
 use Rattle.field_text.specs.declared.file_fault.FileCode.TheVariants as code
 use Rattle.field_text.specs.declared.file_fault.FileName.TheVariants as name
-use Rattle.field_text.specs.Fields.{name_field, minutes_field, moment_field}
+use Rattle.field_text.specs.Fields.{name_field, minutes_field, moment_field, kind_field}
 use Rattle.field_text.specs.Rows.{in_column, text_row}
 use Rattle.field_text.specs.Steps.{◌>>=◌}
 use Rattle.field_text.proofs.FieldsAgain.{name-read}
 use Rattle.crew_files.specs.declared.part.Part.{Part}
 use Rattle.crew_files.specs.declared.part.Part.TheVariants.{History, Fixed}
 use Rattle.crew_files.specs.Crew.{crew_header, crew_row, crew_columns, member_checked, is_named, has_name, new_member}
-use Rattle.crew_files.specs.Events.{event_header, event_row, event_columns, event_checked, kind_field, times_fit, flights_fit, last_release, is_in_order, may_report, with_event, part_of, changed}
+use Rattle.crew_files.specs.Events.{event_header, event_row, event_columns, event_checked, times_fit, flights_fit, last_release, is_in_order, may_report, with_event, part_of, changed}
 use Rattle.crew_files.specs.Limits.{most_events, events_limit}
 use Rattle.crew_files.specs.Flights.{flights_field}
 use Rattle.crew_files.specs.Files.{crew_file, event_file, members_of, some_members}

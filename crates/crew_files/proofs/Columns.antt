@@ -5,10 +5,10 @@ use Rattle.duty_calendar.specs.declared.event.Kind.{Kind}
 use Rattle.duty_calendar.specs.declared.horizon.Horizon.{Horizon}
 use Rattle.duty_calendar.specs.declared.member.Member.{Member}
 use Rattle.field_text.specs.declared.file_fault.FileCode.{FileCode}
-use Rattle.field_text.specs.Fields.{name_field, minutes_field, moment_field}
+use Rattle.field_text.specs.Fields.{name_field, minutes_field, moment_field, kind_field}
 use Rattle.field_text.specs.Rows.{in_column}
 use Rattle.crew_files.specs.Crew.{crew_columns, member_checked}
-use Rattle.crew_files.specs.Events.{event_columns, kind_field}
+use Rattle.crew_files.specs.Events.{event_columns}
 use Rattle.crew_files.specs.Flights.{flights_field}
 
 module _ (before : List Member) (n l u : List ℕ) where

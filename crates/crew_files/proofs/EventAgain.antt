@@ -16,17 +16,17 @@ use Rattle.duty_calendar.specs.declared.member.Member.{Member}
 use Rattle.field_text.specs.declared.file_fault.FileCode.{FileCode}
 use Rattle.field_text.specs.Fields.{name, minutes, minutes_value}
 use Rattle.field_text.specs.Rows.{in_column}
-use Rattle.field_text.specs.Spelling.{minutes_text}
+use Rattle.field_text.specs.Spelling.{minutes_text, kind_text}
 use Rattle.field_text.specs.Steps.{◌>>=◌, or_fault}
 use Rattle.field_text.specs.declared.field_fault.FieldFault.TheVariants.{Range}
 use Rattle.field_text.proofs.Again.{minutes-again}
 use Rattle.field_text.proofs.CleanLines.{are_clean, AreClean, clean-field, all-utf8}
-use Rattle.field_text.proofs.FieldsAgain.{name-again}
+use Rattle.field_text.proofs.FieldsAgain.{name-again, kind-again}
 use Rattle.field_text.proofs.MomentAgain.{moment-read}
 use Rattle.crew_files.specs.declared.part.Part.{Part}
-use Rattle.crew_files.specs.Events.{event_row, event_columns, event_checked, kind_field, are_in_row, times_fit, flights_fit, last_release, is_in_order, may_report, with_event, part_of, changed}
+use Rattle.crew_files.specs.Events.{event_row, event_columns, event_checked, are_in_row, times_fit, flights_fit, last_release, is_in_order, may_report, with_event, part_of, changed}
 use Rattle.crew_files.specs.Limits.{most_events}
-use Rattle.crew_files.specs.Texts.{event_fields, kind_text}
+use Rattle.crew_files.specs.Texts.{event_fields}
 use Rattle.crew_files.proofs.Columns.{event-all}
 use Rattle.crew_files.proofs.FlightsAgain.{IsWithin, flights-again, flights-clean, moment-clean}
 use Rattle.crew_files.proofs.TextRow.{row-fits}
@@ -43,11 +43,6 @@ name-clean n k = clean-field name (λ t. Ok t) n n refl (name-again n k)
 
 pub minutes-clean : (n : ℕ) → n < 60000 → are_clean (minutes_text n) ≡ true
 minutes-clean n l = clean-field minutes (λ text. or_fault Range (minutes_value text (length text - 3))) (minutes_text n) n refl (minutes-again n l)
-
-kind-again : (kind : Kind) → kind_field (kind_text kind) ≡ Ok kind
-kind-again Flight = refl
-kind-again Ground = refl
-kind-again Leave = refl
 
 kind-clean : (kind : Kind) → are_clean (kind_text kind) ≡ true
 kind-clean Flight = refl

@@ -1,19 +1,14 @@
 -- How a row of `history.csv` or `fixed.csv` reads: an event of a member.
 use Rattle.std.specs.Prelude.{ℕ, zero, suc, Bool, true, not, ◌&&◌, ◌==◌, List, [], ◌∷◌, ◌++◌, length, codes, fold, slice_index_or, nat_le, nat_lt, Result, Ok, Err, if◌then◌else◌}
-use Rattle.std.specs.Str.{bytes_eq}
 use Rattle.duty_calendar.specs.Calendar.{month_end}
 use Rattle.duty_calendar.specs.Minutes.{is_flight}
 use Rattle.duty_calendar.specs.declared.event.Event.{Event}
 use Rattle.duty_calendar.specs.declared.event.Flown.{Flown}
-use Rattle.duty_calendar.specs.declared.event.Kind.{Kind}
-use Rattle.duty_calendar.specs.declared.event.Kind.TheVariants.{Flight, Ground, Leave}
 use Rattle.duty_calendar.specs.declared.horizon.Horizon.{Horizon}
 use Rattle.duty_calendar.specs.declared.member.Member.{Member}
-use Rattle.field_text.specs.declared.field_fault.FieldFault.{FieldFault}
-use Rattle.field_text.specs.declared.field_fault.FieldFault.TheVariants.{Empty, Shape}
 use Rattle.field_text.specs.declared.file_fault.FileCode.{FileCode}
 use Rattle.field_text.specs.declared.file_fault.FileCode.TheVariants.{Unknown, Order, OutsideMonth, Limit}
-use Rattle.field_text.specs.Fields.{name_field, moment_field, minutes_field}
+use Rattle.field_text.specs.Fields.{name_field, moment_field, minutes_field, kind_field}
 use Rattle.field_text.specs.Rows.{in_column, text_row}
 use Rattle.field_text.specs.Steps.{◌>>=◌}
 use Rattle.crew_files.specs.declared.part.Part.{Part}
@@ -26,15 +21,6 @@ abbrev pub event_header : List (List ℕ)
 event_header =
     codes "member" ∷ codes "kind" ∷ codes "report" ∷ codes "parked" ∷ codes "release"
     ∷ codes "legs" ∷ codes "credit" ∷ []
-
--- one of three words
-abbrev pub kind_field : List ℕ → Result Kind FieldFault
-kind_field text =
-    if length text == 0 then Err Empty
-    else if bytes_eq text (codes "flight") then Ok Flight
-    else if bytes_eq text (codes "ground") then Ok Ground
-    else if bytes_eq text (codes "leave") then Ok Leave
-    else Err (Shape 1)
 
 -- the name of a member, and an event, of seven fields
 abbrev pub event_columns : Horizon → List (List ℕ) → Result (List ℕ × Event) FileCode

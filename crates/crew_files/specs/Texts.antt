@@ -1,14 +1,12 @@
 -- How members are spelt in their three files.
-use Rattle.std.specs.Prelude.{ℕ, ◌≤◌, List, [], ◌∷◌, ◌++◌, All, codes, flat_map}
+use Rattle.std.specs.Prelude.{ℕ, ◌≤◌, List, [], ◌∷◌, ◌++◌, All, flat_map}
 use Rattle.duty_calendar.specs.Calendar.{horizon_end}
 use Rattle.duty_calendar.specs.declared.event.Event.{Event}
 use Rattle.duty_calendar.specs.declared.event.Flown.{Flown}
-use Rattle.duty_calendar.specs.declared.event.Kind.{Kind}
-use Rattle.duty_calendar.specs.declared.event.Kind.TheVariants.{Flight, Ground, Leave}
 use Rattle.duty_calendar.specs.declared.horizon.Horizon.{Horizon}
 use Rattle.duty_calendar.specs.declared.member.Member.{Member}
 use Rattle.field_text.specs.Rows.{line}
-use Rattle.field_text.specs.Spelling.{minutes_text, moment_text}
+use Rattle.field_text.specs.Spelling.{minutes_text, moment_text, kind_text}
 use Rattle.crew_files.specs.declared.part.Part.{Part}
 use Rattle.crew_files.specs.Crew.{crew_header}
 use Rattle.crew_files.specs.Events.{event_header, part_of}
@@ -20,11 +18,6 @@ behind_commas fields = flat_map (λ f. 44 ∷ f) fields
 -- the fields of a member
 abbrev pub crew_fields : Member → List (List ℕ)
 crew_fields m = m.name ∷ minutes_text m.low ∷ minutes_text m.high ∷ []
-
-abbrev pub kind_text : Kind → List ℕ
-kind_text Flight = codes "flight"
-kind_text Ground = codes "ground"
-kind_text Leave = codes "leave"
 
 abbrev pub flight_text : Horizon → Flown → List ℕ
 flight_text h f = moment_text h f.out_at ++ 47 ∷ moment_text h f.in_at

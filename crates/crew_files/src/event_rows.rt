@@ -6,7 +6,7 @@ ghost use Rattle.field_text.specs.Sizes.{longest};
 ghost use Rattle.field_text.specs.Records.{AreWithin};
 ghost use Rattle.field_text.specs.Rows.{Fails, rows_from, same_record};
 ghost use Rattle.field_text.specs.declared.file_fault.FileCode.TheVariants.{NoMemory};
-ghost use Rattle.crew_files.specs.Events.{event_header, event_row, event_columns, event_checked, kind_field, are_in_row, times_fit, flights_fit, last_release, is_in_order, may_report, part_of, changed, with_event, with_event_at};
+ghost use Rattle.crew_files.specs.Events.{event_header, event_row, event_columns, event_checked, are_in_row, times_fit, flights_fit, last_release, is_in_order, may_report, part_of, changed, with_event, with_event_at};
 ghost use Rattle.crew_files.specs.Files.{event_file, file_name};
 ghost use Rattle.crew_files.specs.Limits.{most_events, events_limit};
 
@@ -17,7 +17,7 @@ use crate::part::Part;
 use csv::{ByteRecord, StringRecord};
 use duty_calendar::{Event, Flown, Horizon, Kind, List, Member, Name};
 use field_text::{
-    FieldFault, FileCode, FileFault, FileName, Records, as_text, at_row, field_is, in_column, next,
+    FileCode, FileFault, FileName, Records, as_text, at_row, field_is, in_column, next, read_kind,
     read_minutes, read_moment, read_name, text_at,
 };
 use std::alloc::Global;
@@ -29,26 +29,6 @@ const FLIGHTS_LIMIT: u32 = 4;
 
 /// The first minute of the month.
 const MONTH: u32 = 525_600;
-
-/// The kind of an event.
-fn read_kind(text: &str) -> Result<Kind, FieldFault>
-    ensures value { result ≡ kind_field text.now }
-{
-    let bytes = text.as_bytes();
-    if bytes.is_empty() {
-        return Err(FieldFault::Empty);
-    }
-    if bytes == b"flight".as_slice() {
-        return Ok(Kind::Flight);
-    }
-    if bytes == b"ground".as_slice() {
-        return Ok(Kind::Ground);
-    }
-    if bytes == b"leave".as_slice() {
-        return Ok(Kind::Leave);
-    }
-    Err(FieldFault::Shape(1))
-}
 
 /// Whether the flights come one after another between two times.
 fn are_in_row(start: u32, stop: u32, flights: &[Flown]) -> bool

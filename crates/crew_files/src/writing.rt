@@ -1,17 +1,17 @@
 //! Writing the three files of members.
 ghost use Rattle.std.specs.Prelude.{◌≡◌, ◌≤◌, ◌++◌, ◌∷◌, [], All, Ok, OnOk, IfOk};
-ghost use Rattle.field_text.specs.Spelling.{minutes_text};
+ghost use Rattle.field_text.specs.Spelling.{minutes_text, kind_text};
 ghost use Rattle.duty_calendar.specs.Calendar.{horizon_end};
 ghost use Rattle.duty_calendar.specs.Checks.{AreMembers};
 ghost use Rattle.crew_files.specs.declared.part.Part.TheVariants.{History, Fixed};
 ghost use Rattle.crew_files.specs.Files.{members_of};
-ghost use Rattle.crew_files.specs.Texts.{crew_fields, kind_text, times_fields, flight_text, flights_text, event_fields, crew_text, events_of_member, events_text, behind_commas, FlightEndsWithin, EndsWithin, LiesWithin};
+ghost use Rattle.crew_files.specs.Texts.{crew_fields, times_fields, flight_text, flights_text, event_fields, crew_text, events_of_member, events_text, behind_commas, FlightEndsWithin, EndsWithin, LiesWithin};
 ghost use Rattle.field_text.specs.Rows.{line};
 ghost use Rattle.std.specs.List.{flat_map};
 
 use crate::part::Part;
-use duty_calendar::{Event, Flown, Horizon, Kind, List, Member, Memory, Name};
-use field_text::{put_bytes, put_minutes, put_moment};
+use duty_calendar::{Event, Flown, Horizon, List, Member, Memory, Name};
+use field_text::{kind_word, put_bytes, put_minutes, put_moment};
 use std::alloc::Global;
 
 /// The texts of `crew.csv`, `history.csv` and `fixed.csv`.
@@ -31,16 +31,6 @@ fn put_member(out: &mut List<u8>, member: &Member) -> Result<(), Memory>
     put_bytes(out, b",")?;
     put_minutes(out, member.high)?;
     put_bytes(out, b"\n")
-}
-
-fn put_kind(out: &mut List<u8>, kind: Kind) -> Result<(), Memory>
-    ensures whole { OnOk result (out.new ≡ out.old ++ kind_text kind) }
-{
-    match kind {
-        Kind::Flight => put_bytes(out, b"flight"),
-        Kind::Ground => put_bytes(out, b"ground"),
-        Kind::Leave => put_bytes(out, b"leave"),
-    }
 }
 
 fn put_flight(out: &mut List<u8>, flight: &Flown, horizon: &Horizon) -> Result<(), Memory>
@@ -104,7 +94,7 @@ fn put_begin(
 {
     put_bytes(out, name.bytes())?;
     put_bytes(out, b",")?;
-    put_kind(out, event.kind)?;
+    put_bytes(out, kind_word(event.kind))?;
     put_times(out, event, horizon)
 }
 

@@ -1,14 +1,17 @@
--- Names and stations are read as they stand, and what is read is a name or a station.
+-- Names and stations are read as they stand, and what is read is a name or a station. Kinds read as they are spelt.
 use Rattle.std.proofs.Common.{◌≡◌, ℕ, zero, suc, ◌+◌, ◌≤◌, List, [], ◌∷◌, length, Bool, true, false, ◌&&◌, Option, Some, None, Result, Ok, refl, arith, ap, sym, ◌∙◌}
 use Rattle.std.proofs.lemmas.Bool.{and_parts}
 use Rattle.std.proofs.lemmas.Bool.Decides.{nat_tests}
 use Rattle.std.specs.List.{list_all}
 use Rattle.std.specs.Prelude.{IsTrue, nat_le, ◌==◌}
 use Rattle.duty_calendar.specs.Forms.{is_name, is_name_byte, is_station_code, are_capitals, is_capital}
+use Rattle.duty_calendar.specs.declared.event.Kind.{Kind}
+use Rattle.duty_calendar.specs.declared.event.Kind.TheVariants.{Flight, Ground, Leave}
 use Rattle.field_text.specs.declared.field_fault.FieldFault.{FieldFault}
 use Rattle.field_text.specs.declared.form.Class.TheVariants.{NameByte}
 use Rattle.field_text.specs.Form.{Form, finished, up_to, row, fault_from, is_in, IsRow}
-use Rattle.field_text.specs.Fields.{shaped, field, name, name_field, station, station_field}
+use Rattle.field_text.specs.Fields.{shaped, field, name, name_field, station, station_field, kind_field}
+use Rattle.field_text.specs.Spelling.{kind_text}
 use Rattle.field_text.proofs.Again.{field-of}
 use Rattle.field_text.proofs.Names.{name-right, name-wrong, name-past, name-same}
 use Rattle.field_text.proofs.RowForms.{row_none, row_from_none}
@@ -109,3 +112,10 @@ station-read text s e =
     let f = field-ok (row station) (λ t. Ok t) text s e in
     let same : text ≡ s = cc f.means in
     ap is_station_code (sym same) ∙ row-letters text (row_from_none 1 station text f.formed)
+
+-- kinds
+
+pub kind-again : (kind : Kind) → kind_field (kind_text kind) ≡ Ok kind
+kind-again Flight = refl
+kind-again Ground = refl
+kind-again Leave = refl

@@ -1,14 +1,19 @@
 -- How the fields of the month's files read.
-use Rattle.std.specs.Prelude.{ℕ, Bool, ◌+◌, ◌*◌, ◌-◌, ◌^◌, List, [], ◌∷◌, ◌++◌, length, take, slice_range, ℤ, pos, Option, Some, None, Result, Ok, Err, nat_lt, nat_le, slice_index, ◌&&◌, if◌then◌else◌}
+use Rattle.std.specs.Prelude.{ℕ, Bool, ◌+◌, ◌*◌, ◌-◌, ◌^◌, List, [], ◌∷◌, ◌++◌, length, take, slice_range, ℤ, pos, Option, Some, None, Result, Ok, Err, nat_lt, nat_le, slice_index, ◌==◌, ◌&&◌, if◌then◌else◌}
+use Rattle.std.specs.Str.{bytes_eq}
 use Rattle.std.specs.Str.Parse.{digits_value}
 use Rattle.jiff_core.specs.Calendar.{days_from_civil, days_in_month}
 use Rattle.duty_calendar.specs.Calendar.{minute_on}
+use Rattle.duty_calendar.specs.Forms.{is_station_code}
+use Rattle.duty_calendar.specs.declared.event.Kind.{Kind}
+use Rattle.duty_calendar.specs.declared.event.Kind.TheVariants.{Flight, Ground, Leave}
 use Rattle.duty_calendar.specs.declared.horizon.Horizon.{Horizon}
 use Rattle.field_text.specs.declared.form.Class.{Class}
 use Rattle.field_text.specs.declared.form.Class.TheVariants.{Digit, NonZero, Capital, NameByte, Byte}
 use Rattle.field_text.specs.declared.field_fault.FieldFault.{FieldFault}
 use Rattle.field_text.specs.declared.field_fault.FieldFault.TheVariants.{Empty, Shape, Range, NoSuchDay, OutsideHorizon}
 use Rattle.field_text.specs.Form.{Form, finished, one, many, up_to, either, row, fault_from}
+use Rattle.field_text.specs.Spelling.{kind_text}
 use Rattle.field_text.specs.Steps.{◌>>=◌, or_fault}
 
 -- no fault, or one of shape
@@ -113,6 +118,19 @@ station = Capital ∷ Capital ∷ Capital ∷ []
 abbrev pub station_field : List ℕ → Result (List ℕ) FieldFault
 station_field = field (row station) (λ text. Ok text)
 
--- the forms of all fields
+-- the station of these letters
+abbrev pub station_of : List ℕ → Option (List ℕ)
+station_of text = if is_station_code text then Some text else None
+
+-- one of three words
+abbrev pub kind_field : List ℕ → Result Kind FieldFault
+kind_field text =
+    if length text == 0 then Err Empty
+    else if bytes_eq text (kind_text Flight) then Ok Flight
+    else if bytes_eq text (kind_text Ground) then Ok Ground
+    else if bytes_eq text (kind_text Leave) then Ok Leave
+    else Err (Shape 1)
+
+-- the forms of all fields but the kind of an event
 abbrev pub forms : List Form
 forms = number ∷ minutes ∷ row clock ∷ row day ∷ row moment ∷ name ∷ row station ∷ []

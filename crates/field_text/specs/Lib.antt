@@ -3,9 +3,9 @@ pub mod Steps
 pub mod Gives
 pub mod Form
 pub mod Columns
-pub mod Fields
 pub mod Dates
 pub mod Spelling
+pub mod Fields
 pub mod Tokens
 pub mod Records
 pub mod Rows

@@ -1,7 +1,9 @@
 -- How values are spelt in fields.
-use Rattle.std.specs.Prelude.{◌≡◌, ℕ, ◌+◌, ◌/◌, ◌%◌, List, [], ◌∷◌, ◌++◌, take, decimal, pos, unsigned_abs, ◌+ℤ◌, ◌-ℤ◌, ◌*ℤ◌}
+use Rattle.std.specs.Prelude.{◌≡◌, ℕ, ◌+◌, ◌/◌, ◌%◌, List, [], ◌∷◌, ◌++◌, take, codes, decimal, pos, unsigned_abs, ◌+ℤ◌, ◌-ℤ◌, ◌*ℤ◌}
 use Rattle.jiff_core.specs.declared.civil.date.Date.{Date}
 use Rattle.duty_calendar.specs.Calendar.{day_zero}
+use Rattle.duty_calendar.specs.declared.event.Kind.{Kind}
+use Rattle.duty_calendar.specs.declared.event.Kind.TheVariants.{Flight, Ground, Leave}
 use Rattle.duty_calendar.specs.declared.horizon.Horizon.{Horizon}
 use Rattle.field_text.specs.Dates.{Civil, civil}
 
@@ -42,6 +44,12 @@ moment_end of_day = 84 ∷ clock_text of_day ++ 90 ∷ []
 unfoldable pub moment_text : Horizon → ℕ → List ℕ
 moment_text h minute =
     civil_text (civil (utc_minute h minute / 1440)) ++ moment_end (utc_minute h minute % 1440)
+
+-- the word of a kind of event
+abbrev pub kind_text : Kind → List ℕ
+kind_text Flight = codes "flight"
+kind_text Ground = codes "ground"
+kind_text Leave = codes "leave"
 
 -- a list has gained a part of a text, from its begin
 abbrev pub HasPartly : List ℕ → List ℕ → List ℕ → Type 0

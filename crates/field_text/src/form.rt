@@ -32,7 +32,7 @@ impl Class {
 /// The first column at which the text, which begins at `column`, is not these bytes in a row.
 pub fn row_fault(classes: &[Class], text: &[u8], column: u32) -> Option<u32>
     requires short { column + length text.now < 2 ^ 32 }
-    ensures column { result ≡ fault_from column (row classes.now) text.now }
+    ensures value { result ≡ fault_from column (row classes.now) text.now }
     ensures row { IfNone result (IsRow classes.now text.now) }
     ensures whole { IfNone result (length text.now ≡ length classes.now) }
 {

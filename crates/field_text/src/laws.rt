@@ -3,11 +3,12 @@ ghost use Rattle.std.specs.Prelude.{◌≡◌, ◌↔◌, ℕ, ◌+◌, ◌<◌,
 ghost use Rattle.std.specs.List.{list_all};
 ghost use Rattle.duty_calendar.specs.Calendar.{horizon_end};
 ghost use Rattle.duty_calendar.specs.Forms.{is_name, is_station_code};
+ghost use Rattle.duty_calendar.specs.declared.event.Kind.{Kind};
 ghost use Rattle.duty_calendar.specs.declared.horizon.Horizon.{Horizon};
 ghost use Rattle.field_text.specs.Form.{Form, fault_from};
 ghost use Rattle.field_text.specs.Columns.{Fits, StopsAt, is_live};
-ghost use Rattle.field_text.specs.Fields.{forms, number_field, minutes_field, moment_field, name_field, station_field};
-ghost use Rattle.field_text.specs.Spelling.{number_text, minutes_text, moment_text};
+ghost use Rattle.field_text.specs.Fields.{forms, number_field, minutes_field, moment_field, name_field, station_field, kind_field};
+ghost use Rattle.field_text.specs.Spelling.{number_text, minutes_text, moment_text, kind_text};
 ghost use Rattle.field_text.specs.Tokens.{is_graphic, token_at, tokens_from, ◌andthen◌};
 
 /// What the column of a fault of shape says of the texts of a form. Each part of the fields' forms
@@ -41,4 +42,5 @@ pub fn field_laws()
     ensures name { (text : Sequence ℕ) → IsTrue (is_name text) → name_field text ≡ Ok text }
     ensures station { (text : Sequence ℕ) → IsTrue (is_station_code text)
         → station_field text ≡ Ok text }
+    ensures kind { (k : Kind) → kind_field (kind_text k) ≡ Ok k }
 {}

@@ -15,7 +15,7 @@ static MINUTES_END: [Class; 3] = [Class::Byte(b':'), Class::Digit, Class::Digit]
 /// The first column at which the text, which begins at a column, is not digits alone.
 fn digits_fault(text: &[u8], column: u32) -> Option<u32>
     requires short { column + length text.now < 2 ^ 32 }
-    ensures column { result ≡ fault_from column (many Digit finished) text.now }
+    ensures value { result ≡ fault_from column (many Digit finished) text.now }
     ensures digits { IfNone result (AllDigits 10 text.now) }
 {
     for (i, b) in text.iter().enumerate() {
@@ -29,7 +29,7 @@ fn digits_fault(text: &[u8], column: u32) -> Option<u32>
 /// The first column at which the text is no number.
 fn number_fault(text: &[u8]) -> Option<u32>
     requires short { length text.now ≤ longest }
-    ensures column { result ≡ fault_from 1 number text.now }
+    ensures value { result ≡ fault_from 1 number text.now }
     ensures digits { IfNone result (AllDigits 10 text.now × (slice_index text.now 0 ≢ 43)) }
 {
     let Some((first, rest)) = text.split_first() else {

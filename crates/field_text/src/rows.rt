@@ -28,7 +28,7 @@ pub fn as_text(row: ByteRecord) -> Result<StringRecord, FileCode>
 
 /// The text of a field, counted from 0.
 pub fn text_at(row: &StringRecord, i: usize) -> &str
-    requires within { i < length (fields_of row.now) }
+    requires in_range { i < length (fields_of row.now) }
     requires short { AreWithin longest (fields_of row.now) }
     ensures value { result.now ≡ get_or (fields_of row.now) i [] }
     ensures short { length result.now ≤ longest }
@@ -41,7 +41,7 @@ pub fn text_at(row: &StringRecord, i: usize) -> &str
 
 /// The bytes of a field, counted from 0.
 pub fn bytes_at(row: &ByteRecord, i: usize) -> &[u8]
-    requires within { i < length (fields_of row.now) }
+    requires in_range { i < length (fields_of row.now) }
     ensures value { result.now ≡ get_or (fields_of row.now) i [] }
 {
     match row.get(i) {
@@ -52,7 +52,7 @@ pub fn bytes_at(row: &ByteRecord, i: usize) -> &[u8]
 
 /// Whether a field, counted from 0, is this word.
 pub fn field_is(row: &ByteRecord, i: usize, word: &[u8]) -> bool
-    requires within { i < length (fields_of row.now) }
+    requires in_range { i < length (fields_of row.now) }
     ensures value { result ≡ bytes_eq (get_or (fields_of row.now) i []) word.now }
 {
     bytes_at(row, i) == word

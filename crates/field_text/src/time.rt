@@ -55,7 +55,7 @@ static MOMENT: [Class; 17] = [
 
 /// The number that two digits write.
 pub fn two_digits(text: &[u8], at: usize) -> u32
-    requires place { at + 1 < length text.now }
+    requires in_range { at + 1 < length text.now }
     requires first { is_in Digit (slice_index text.now at) ≡ true }
     requires second { is_in Digit (slice_index text.now (at + 1)) ≡ true }
     ensures value { result ≡ two_digits text.now at }

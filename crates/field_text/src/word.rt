@@ -3,7 +3,7 @@ ghost use Rattle.std.specs.Prelude.{◌≡◌, ◌≤◌, length, IfNone, IsTrue
 ghost use Rattle.duty_calendar.specs.Forms.{is_name};
 ghost use Rattle.field_text.specs.Sizes.{longest};
 ghost use Rattle.field_text.specs.Form.{fault_from};
-ghost use Rattle.field_text.specs.Fields.{name, name_field, station_field};
+ghost use Rattle.field_text.specs.Fields.{name, name_field, station_field, station_of};
 
 use crate::field_fault::FieldFault;
 use crate::form::{Class, row_fault};
@@ -14,7 +14,7 @@ static STATION: [Class; 3] = [Class::Capital, Class::Capital, Class::Capital];
 /// The first column at which a text that is not empty is no name.
 fn name_fault(text: &[u8]) -> Option<u32>
     requires some { 1 ≤ length text.now }
-    ensures column { result ≡ fault_from 1 name text.now }
+    ensures value { result ≡ fault_from 1 name text.now }
     ensures form { IfNone result (IsTrue (is_name text.now)) }
 {
     for (i, b) in text.iter().enumerate() {
@@ -62,4 +62,14 @@ pub fn read_station(text: &str) -> Result<Station, FieldFault>
         Some(station) => Ok(station),
         None => unreachable!(),
     }
+}
+
+/// The station of these letters, where they are three capital letters.
+pub fn station_of(text: &[u8]) -> Option<Station>
+    ensures value { result ≡ station_of text.now }
+{
+    if text.len() != 3 {
+        return None;
+    }
+    Station::new([text[0], text[1], text[2]])
 }

@@ -34,7 +34,7 @@ pub fn put_number(out: &mut List<u8>, value: u32) -> Result<(), Memory>
 
 /// The two digits of a number.
 fn two(value: u32) -> [u8; 2]
-    requires small { value < 100 }
+    requires in_range { value < 100 }
     ensures value { result ≡ two value }
 {
     [b'0' + (value / 10) as u8, b'0' + (value % 10) as u8]
@@ -42,7 +42,7 @@ fn two(value: u32) -> [u8; 2]
 
 /// A colon and the two digits of a number.
 fn minutes_end(value: u32) -> [u8; 3]
-    requires small { value < 100 }
+    requires in_range { value < 100 }
     ensures value { result ≡ 58 ∷ two value }
 {
     let [tens, ones] = two(value);
@@ -64,7 +64,7 @@ pub fn put_minutes(out: &mut List<u8>, value: u32) -> Result<(), Memory>
 /// A minute of the day as a clock.
 #[tactic(auto, unfolding(crate::specs::Spelling::clock_text))]
 fn clock_bytes(value: u32) -> [u8; 5]
-    requires of_day { value < 1440 }
+    requires in_range { value < 1440 }
     ensures value { result ≡ clock_text value }
 {
     let [hour_tens, hour_ones] = two(value / 60);
@@ -75,7 +75,7 @@ fn clock_bytes(value: u32) -> [u8; 5]
 /// The end of a moment: its clock between `T` and `Z`.
 #[tactic(auto, unfolding(crate::specs::Spelling::clock_text))]
 fn moment_end(value: u32) -> [u8; 7]
-    requires of_day { value < 1440 }
+    requires in_range { value < 1440 }
     ensures value { result ≡ moment_end value }
 {
     let [hour_tens, hour_ones, colon, tens, ones] = clock_bytes(value);
@@ -85,7 +85,7 @@ fn moment_end(value: u32) -> [u8; 7]
 /// The spelling of a date.
 #[tactic(auto, unfolding(crate::specs::Spelling::day_text))]
 fn day_bytes(value: Date) -> [u8; 10]
-    requires year { IsBetween (pos 0) (pos 9999) value.year }
+    requires in_range { IsBetween (pos 0) (pos 9999) value.year }
     ensures value { result ≡ date_text value }
 {
     let year = value.year() as u32;
@@ -101,7 +101,7 @@ fn day_bytes(value: Date) -> [u8; 10]
 
 /// Appends a minute of the day as a clock.
 pub fn put_clock(out: &mut List<u8>, value: u32) -> Result<(), Memory>
-    requires of_day { value < 1440 }
+    requires in_range { value < 1440 }
     ensures whole { OnOk result (out.new ≡ out.old ++ clock_text value) }
     ensures partly { OnErr result (HasPartly out.old (clock_text value) out.new) }
     ensures again { clock_field (clock_text value) ≡ Ok value }
@@ -111,7 +111,7 @@ pub fn put_clock(out: &mut List<u8>, value: u32) -> Result<(), Memory>
 
 /// Appends a date of the years 0 to 9999.
 pub fn put_day(out: &mut List<u8>, value: Date) -> Result<(), Memory>
-    requires year { IsBetween (pos 0) (pos 9999) value.year }
+    requires in_range { IsBetween (pos 0) (pos 9999) value.year }
     ensures whole { OnOk result (out.new ≡ out.old ++ date_text value) }
     ensures partly { OnErr result (HasPartly out.old (date_text value) out.new) }
     ensures again { day_field (date_text value) ≡ Ok (epoch_day value) }
@@ -121,7 +121,7 @@ pub fn put_day(out: &mut List<u8>, value: Date) -> Result<(), Memory>
 
 /// Appends a base-local minute of the horizon as a moment in UTC.
 pub fn put_moment(out: &mut List<u8>, minute: u32, horizon: &Horizon) -> Result<(), Memory>
-    requires within { minute ≤ horizon_end horizon.now }
+    requires in_range { minute ≤ horizon_end horizon.now }
     ensures whole { OnOk result (out.new ≡ out.old ++ moment_text horizon.now minute) }
     ensures partly { OnErr result (HasPartly out.old (moment_text horizon.now minute) out.new) }
     ensures again { moment_field horizon.now (moment_text horizon.now minute) ≡ Ok minute }

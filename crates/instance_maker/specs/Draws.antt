@@ -1,12 +1,13 @@
--- How things are drawn from a number: each draw takes the state that the last one left, and gives a value and the next
--- state.
-use Rattle.std.specs.Prelude.{ℕ, zero, suc, ◌+◌, ◌*◌, ◌/◌, ◌%◌, ◌^◌, List, [], ◌∷◌, ◌++◌}
+-- How things are drawn from a number: each draw takes the state that the last one left, and gives a
+-- value and the next state.
+use Rattle.std.specs.Prelude.{◌≡◌, ℕ, zero, suc, ◌+◌, ◌*◌, ◌/◌, ◌%◌, ◌^◌, List, [], ◌∷◌, ◌++◌, Result, IfOk}
 
 -- something that is drawn
 abbrev pub Draw : Type 0 → Type 0
 Draw A = ℕ → A × ℕ
 
--- one draw and then another, which may depend on the value of the first; and a value for which nothing is drawn
+-- one draw and then another, which may depend on the value of the first; and a value for which
+-- nothing is drawn
 infixl 10 ◌>>=◌
 abbrev pub ◌>>=◌ : {A B : Type 0} → Draw A → (A → Draw B) → Draw B
 (draw >>= next) state = next (draw state).0 (draw state).1
@@ -29,3 +30,7 @@ in_order draw (suc n) = do
   items ← in_order draw n
   item ← draw n
   done (items ++ item ∷ [])
+
+-- what was made is what is drawn from one state to another, unless memory ran out
+abbrev pub IsDrawn : {A E : Type 0} → Draw A → ℕ → ℕ → Result A E → Type 0
+IsDrawn draw old new result = IfOk result (λ made. draw old ≡ (made, new))

@@ -1,6 +1,6 @@
 //! Drawn bids.
 ghost use Rattle.std.specs.Prelude.{◌≡◌, ◌≤◌, ◌<◌, IfOk};
-ghost use Rattle.instance_maker.specs.Draws.{in_order};
+ghost use Rattle.instance_maker.specs.Draws.{IsDrawn, in_order};
 ghost use Rattle.instance_maker.specs.Months.{only, drawn_wish, drawn_bid, drawn_bids};
 
 use crate::draws::Draws;
@@ -27,7 +27,7 @@ fn only(alloc: Global, test: Test) -> Result<Filter, Memory>
 #[tactic(auto, unfolding(crate::specs::Months::drawn_wish))]
 fn draw_wish(alloc: Global, draws: &mut Draws, pairings: u32, kind: u32) -> Result<Wish, Memory>
     requires flown { kind ≡ 0 → 1 ≤ pairings }
-    ensures drawn { IfOk result (λ made. drawn_wish pairings kind draws.old.state ≡ (made, draws.new.state)) }
+    ensures drawn { IsDrawn (drawn_wish pairings kind) draws.old.state draws.new.state result }
 {
     match kind {
         0 => Ok(Wish::Fly(draws.below(pairings))),
@@ -49,7 +49,7 @@ fn draw_wish(alloc: Global, draws: &mut Draws, pairings: u32, kind: u32) -> Resu
 /// Draws a bid.
 #[tactic(auto, unfolding(crate::specs::Months::drawn_bid))]
 fn draw_bid(alloc: Global, draws: &mut Draws, pairings: u32) -> Result<Bid, Memory>
-    ensures drawn { IfOk result (λ made. drawn_bid pairings draws.old.state ≡ (made, draws.new.state)) }
+    ensures drawn { IsDrawn (drawn_bid pairings) draws.old.state draws.new.state result }
 {
     let weight = 1 + draws.below(20);
     let kind = draws.below(4);
@@ -60,8 +60,8 @@ fn draw_bid(alloc: Global, draws: &mut Draws, pairings: u32) -> Result<Bid, Memo
 
 /// Draws the three bids of a member.
 fn draw_three(alloc: Global, draws: &mut Draws, pairings: u32) -> Result<List<Bid>, Memory>
-    ensures drawn { IfOk result (λ list. in_order (λ _. drawn_bid pairings) 3 draws.old.state
-        ≡ (list, draws.new.state)) }
+    ensures drawn { IsDrawn (in_order (λ _. drawn_bid pairings) 3)
+        draws.old.state draws.new.state result }
 {
     let mut list = List::new(alloc);
     for _number in 0..3_u32 {
@@ -78,7 +78,7 @@ pub fn draw_bids(
     members: u32,
     pairings: u32,
 ) -> Result<List<List<Bid>>, Memory>
-    ensures drawn { IfOk result (λ lists. drawn_bids members pairings draws.old.state ≡ (lists, draws.new.state)) }
+    ensures drawn { IsDrawn (drawn_bids members pairings) draws.old.state draws.new.state result }
 {
     let mut lists = List::new(alloc);
     for _member in 0..members {

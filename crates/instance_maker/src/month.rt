@@ -67,7 +67,8 @@ fn crew(alloc: Global, count: u32) -> Result<List<Member>, Memory>
     Ok(list)
 }
 
-/// A made-up month of so many members and pairings that follows from a number: the same one at each call.
+/// A made-up month of so many members and pairings that follows from a number: the same one at each
+/// call.
 pub fn make(alloc: Global, number: u64, members: u32, pairings: u32) -> Result<Problem, Memory>
     requires some { 1 ≤ members }
     requires crew { members ≤ 200 }

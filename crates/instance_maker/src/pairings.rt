@@ -1,6 +1,6 @@
 //! Drawn pairings.
 ghost use Rattle.std.specs.Prelude.{◌≡◌, ◌+◌, ◌≤◌, ◌<◌, IfOk};
-ghost use Rattle.instance_maker.specs.Draws.{in_order};
+ghost use Rattle.instance_maker.specs.Draws.{IsDrawn, in_order};
 ghost use Rattle.instance_maker.specs.Months.{place, there_and_back, legs, duty, drawn_duty, drawn_trip, drawn_pairing};
 
 use crate::draws::Draws;
@@ -9,7 +9,8 @@ use crate::names::{home, numbered, station};
 use duty_calendar::{Duty, Flown, Leg, List, Memory, Pairing, Station};
 use std::alloc::Global;
 
-/// What the duties of a pairing share: their number, the station that it goes to, and the day of the first one.
+/// What the duties of a pairing share: their number, the station that it goes to, and the day of
+/// the first one.
 #[derive(Clone, Copy)]
 pub struct Trip {
     pub duties: u32,
@@ -115,7 +116,7 @@ fn duty(alloc: Global, trip: &Trip, number: u32, report: u32, long: u32) -> Resu
 fn draw_duty(alloc: Global, draws: &mut Draws, trip: &Trip, number: u32) -> Result<Duty, Memory>
     requires day { trip.now.first + number ≤ 1000 }
     requires number { number < trip.now.duties }
-    ensures drawn { IfOk result (λ made. drawn_duty trip.now number draws.old.state ≡ (made, draws.new.state)) }
+    ensures drawn { IsDrawn (drawn_duty trip.now number) draws.old.state draws.new.state result }
 {
     let half_hours = draws.below(5);
     let hours = draws.below(3);
@@ -126,8 +127,8 @@ fn draw_duty(alloc: Global, draws: &mut Draws, trip: &Trip, number: u32) -> Resu
 /// Draws the duties of a pairing.
 fn draw_duties(alloc: Global, draws: &mut Draws, trip: &Trip) -> Result<List<Duty>, Memory>
     requires days { trip.now.first + trip.now.duties ≤ 1000 }
-    ensures drawn { IfOk result (λ list. in_order (drawn_duty trip.now) trip.now.duties draws.old.state
-        ≡ (list, draws.new.state)) }
+    ensures drawn { IsDrawn (in_order (drawn_duty trip.now) trip.now.duties)
+        draws.old.state draws.new.state result }
 {
     let mut list = List::new(alloc);
     for number in 0..trip.duties {
@@ -165,7 +166,8 @@ fn draw_pairing(
 ) -> Result<Pairing, Memory>
     requires some { 1 ≤ members }
     requires few { number < 600 }
-    ensures drawn { IfOk result (λ made. drawn_pairing members number draws.old.state ≡ (made, draws.new.state)) }
+    ensures drawn { IsDrawn (drawn_pairing members number)
+        draws.old.state draws.new.state result }
 {
     let trip = draw_trip(draws, members, number);
     let duties = draw_duties(alloc, draws, &trip)?;
@@ -187,8 +189,8 @@ pub fn draw_pairings(
 ) -> Result<List<Pairing>, Memory>
     requires some { 1 ≤ members }
     requires few { count ≤ 600 }
-    ensures drawn { IfOk result (λ list. in_order (drawn_pairing members) count draws.old.state
-        ≡ (list, draws.new.state)) }
+    ensures drawn { IsDrawn (in_order (drawn_pairing members) count)
+        draws.old.state draws.new.state result }
 {
     let mut list = List::new(alloc);
     for number in 0..count {

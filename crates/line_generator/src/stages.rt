@@ -1,19 +1,20 @@
 //! Climbs by tables of what chains of a graph that passes and takes may still gain.
 
-ghost use Rattle.std.specs.Prelude.{◌≡◌, ◌+◌, ◌<◌, ◌≤◌, ◌^◌, ℕ, ℤ, List, Some, None, IfNone, IfOk, IfSome, neg_ℤ, pos, slice_get};
+ghost use Rattle.std.specs.Prelude.{◌≡◌, ◌+◌, ◌<◌, ◌≤◌, ◌^◌, ℕ, ℤ, List, Some, IfNone, IfOk, IfSome, neg_ℤ, pos, slice_get};
 ghost use Rattle.std.specs.Int.Signed.{◌<ℤ◌};
 ghost use Rattle.label_setter.specs.Chains.{IsFeasible};
 ghost use Rattle.label_setter.specs.declared.graph.Arc.{Arc};
 ghost use Rattle.chain_search.specs.Bounds.{IsBound};
+ghost use Rattle.chain_search.specs.Climbs.{Climbs, NoneAbove, raised_to};
 ghost use Rattle.chain_search.specs.Leavings.{AreWays};
 ghost use Rattle.line_lens.specs.TakeLabels.{TakeStepOf, take_done, take_extend};
-ghost use Rattle.line_generator.specs.Climbs.{Climbs, NoneAbove, later, merged, raised_to};
+ghost use Rattle.line_generator.specs.Climbs.{later, merged};
 
-use crate::climbing::{Climb, Ended, climb_chains};
 use crate::search::best_chain;
 use crate::telling::telling_bits;
 use chain_search::{
-    Bits, Coarse, Due, First, Room, Second, Ways, coarse_rest, follows, lasting_rest, least_rest,
+    Bits, Climb, Coarse, Due, Ended, First, Room, Second, Ways, climb_above, coarse_rest, follows,
+    lasting_rest, least_rest,
 };
 use duty_calendar::Memory;
 use label_lattice::{Resource, Steps};
@@ -28,18 +29,16 @@ pub(crate) const LOWEST: i64 = -576_460_752_303_423_488;
 /// Tables tell credit apart by hours, whatever the lens rounds to.
 const HOUR: u32 = 60;
 
-/// How many bits the table of a stage tells apart, and how many steps each of its searches has at most. Few serve most
-/// lines; a table of more takes longer to make.
+/// How many bits the table of a stage tells apart, and how many steps its climb has at most. Few serve most lines; a
+/// table of more takes longer to make.
 const STAGES: [(u32, u64); 2] = [(7, 5_000), (11, 50_000)];
 
-/// The bits of the last stage, whose searches have all steps that are left.
+/// The bits of the last stage, whose climb has all steps that are left.
 const LAST_BITS: u32 = 14;
 
-/// The steps of each search for a heaviest chain. Where they do not suffice, labels do.
-const MOST_STEPS: u64 = 1_000_000;
-
-/// So many chains, each of more gain than the one before, are found in one stage at most.
-const MOST_CHAINS: u32 = 500;
+/// The steps of a climb to a heaviest chain. Where they do not suffice, labels do. Since each chain takes a step, no such
+/// climb finds more chains.
+const MOST_STEPS: u64 = 20_000_000;
 
 /// A climb by the least of four bounds: by three views, and by one that is a bound of the graph. Where one of the views
 /// does not follow the graph, by that one alone.
@@ -50,7 +49,7 @@ fn climb_by_views<R, A, B, C, D, L>(
     views: (A, B, C),
     rest: D,
     over: i64,
-    chains: u32,
+    chains: u64,
     limit: u64,
     steps: &mut Steps<L>,
 ) -> Result<Climb, Memory>
@@ -65,12 +64,13 @@ where
     requires rest { IsBound R.extend R.done graph.now (D.rest rest) }
     requires some { 0 < chains }
     ensures climbs { IfOk result (Climbs R.extend R.done graph.now over) }
-    ensures limit { IfOk result (λ climb. climb.ended ≡ Ended.Limit → climb.best ≡ None → steps.new ≡ steps.old + limit) }
-    ensures once { chains ≡ 1 → steps.new ≤ steps.old + limit }
+    ensures enough { IfOk result (λ climb. climb.ended ≡ Ended.Enough → steps.old + chains ≤ steps.new) }
+    ensures limit { IfOk result (λ climb. climb.ended ≡ Ended.Limit → steps.new ≡ steps.old + limit) }
+    ensures steps { steps.new ≤ steps.old + limit }
 {
     let (first, second, third) = views;
     if !follows(graph, &first) || !follows(graph, &second) || !follows(graph, &third) {
-        return climb_chains(
+        return climb_above(
             alloc,
             graph,
             ways,
@@ -86,7 +86,7 @@ where
     let both = least_rest(graph, first, second);
     let three = least_rest(graph, both, third);
     let rest = least_rest(graph, three, rest);
-    climb_chains(
+    climb_above(
         alloc,
         graph,
         ways,
@@ -105,7 +105,7 @@ fn climb_by_tables<const N: usize, L: Ledger>(
     cap: u32,
     bits: u32,
     over: i64,
-    chains: u32,
+    chains: u64,
     limit: u64,
     steps: &mut Steps<L>,
 ) -> Result<Climb, Memory>
@@ -113,8 +113,9 @@ fn climb_by_tables<const N: usize, L: Ledger>(
     requires narrow { N ≤ 16 }
     requires some { 0 < chains }
     ensures climbs { IfOk result (Climbs take_extend take_done graph.now over) }
-    ensures limit { IfOk result (λ climb. climb.ended ≡ Ended.Limit → climb.best ≡ None → steps.new ≡ steps.old + limit) }
-    ensures once { chains ≡ 1 → steps.new ≤ steps.old + limit }
+    ensures enough { IfOk result (λ climb. climb.ended ≡ Ended.Enough → steps.old + chains ≤ steps.new) }
+    ensures limit { IfOk result (λ climb. climb.ended ≡ Ended.Limit → steps.new ≡ steps.old + limit) }
+    ensures steps { steps.new ≤ steps.old + limit }
 {
     let end = graph.end();
     let low = end.0.low;
@@ -164,21 +165,22 @@ fn merged(best: Option<Traced>, climb: Climb) -> Climb
     }
 }
 
-/// A climb by stages, each with a table that tells more bits apart. A search has so many steps in all stages together.
+/// A climb by stages, each with a table that tells more bits apart. It has so many steps in all stages together.
 pub(crate) fn climb_by_stages<const N: usize, L: Ledger>(
     alloc: Global,
     graph: &Graph<TakeLabel<N>>,
     cap: u32,
     over: i64,
-    chains: u32,
+    chains: u64,
     limit: u64,
     steps: &mut Steps<L>,
 ) -> Result<Climb, Memory>
     requires narrow { N ≤ 16 }
     requires some { 0 < chains }
     ensures climbs { IfOk result (Climbs take_extend take_done graph.now over) }
-    ensures limit { IfOk result (λ climb. climb.ended ≡ Ended.Limit → climb.best ≡ None → steps.new ≡ steps.old + limit) }
-    ensures once { chains ≡ 1 → steps.new ≤ steps.old + limit }
+    ensures enough { IfOk result (λ climb. climb.ended ≡ Ended.Enough → steps.old + chains ≤ steps.new) }
+    ensures limit { IfOk result (λ climb. climb.ended ≡ Ended.Limit → steps.new ≡ steps.old + limit) }
+    ensures steps { steps.new ≤ steps.old + limit }
 {
     let ways = Ways::new(alloc, graph)?;
     let mut best: Option<Traced> = None;
@@ -219,7 +221,7 @@ pub(crate) fn heaviest_chain<const N: usize, L: Ledger>(
     ensures greatest { IfOk result (λ answer. IfSome answer (λ traced. NoneAbove take_extend take_done graph.now traced.gain)) }
     ensures none { IfOk result (λ answer. IfNone answer ((chain : List ℕ) (gain : ℤ) → IsFeasible take_extend take_done graph.now chain gain → ⊥)) }
 {
-    let climb = climb_by_stages::<N, L>(alloc, graph, cap, LOWEST, MOST_CHAINS, MOST_STEPS, steps)?;
+    let climb = climb_by_stages::<N, L>(alloc, graph, cap, LOWEST, MOST_STEPS, MOST_STEPS, steps)?;
     if climb.ended == Ended::Top {
         return Ok(climb.best);
     }

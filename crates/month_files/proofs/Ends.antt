@@ -1,5 +1,6 @@
 -- Faults of the inputs, as ends of their readers.
 use Rattle.std.proofs.Common.{◌≡◌, ◌≢◌, Result, Err, refl}
+use Rattle.std.specs.Prelude.{IfSome}
 use Rattle.rules_file.specs.declared.fault.RuleFault.{RuleFault}
 use Rattle.rules_file.specs.declared.fault.RuleFault.TheVariants as rule
 use Rattle.rules_file.specs.Rules.{rules_file}
@@ -45,7 +46,7 @@ bid_end_other fault bid.Weight other = refl
 bid_end_other fault bid.TooMany other = refl
 bid_end_other fault bid.MemberTwice other = refl
 
-pub rules_ends : {X : Type 0} (P : X → Type 0) (t : Inputs) (e : RuleFault) → rules.Fails e (rules_file t.rules) → Ends P t (Err (rule_end e))
+pub rules_ends : {X : Type 0} (P : X → Type 0) (t : Inputs) (e : RuleFault) → IfSome (rules.told e) (λ f. rules_file t.rules ≡ Err f) → Ends P t (Err (rule_end e))
 rules_ends P t rule.NoMemory h = tt
 rules_ends P t rule.NotToml h = h
 rules_ends P t (rule.MissingKey key) h = h

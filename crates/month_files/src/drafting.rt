@@ -24,7 +24,8 @@ use std::alloc::Global;
 
 /// Adds a file that is to hold these bytes.
 fn add(drafts: &mut List<Draft>, file: File, bytes: List<u8>) -> Result<(), Memory>
-    ensures added { OnOk result (drafts.new ≡ drafts.old ++ record { file = file; bytes = bytes } ∷ []) }
+    ensures added { OnOk result (drafts.new
+        ≡ drafts.old ++ record { file = file; bytes = bytes } ∷ []) }
 {
     if drafts.push(Draft { file, bytes }).is_err() {
         return Err(Memory::NoMemory);
@@ -48,7 +49,8 @@ fn add_rules(alloc: Global, drafts: &mut List<Draft>, base: &Base) -> Result<(),
 fn add_pairings(alloc: Global, drafts: &mut List<Draft>, base: &Base) -> Result<(), Memory>
     requires pairings { ArePairings base.now.rules.horizon base.now.pairings }
     ensures added { OnOk result (drafts.new ≡ drafts.old ++ pairings_drafts base.now) }
-    ensures again { OnOk result (pairings_of base.now.rules.horizon (pairings_text base.now.pairings)
+    ensures again { OnOk result (pairings_of base.now.rules.horizon
+        (pairings_text base.now.pairings)
         (duties_text base.now.rules.horizon base.now.pairings)
         (legs_text base.now.rules.horizon base.now.pairings) ≡ Ok base.now.pairings) }
 {

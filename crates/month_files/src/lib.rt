@@ -1,5 +1,5 @@
-//! The files of a month: their names, their order and their limits, the problem that their texts name, and how they are
-//! written.
+//! The files of a month: their names, their order and their limits, the problem that their texts
+//! name, and how they are written.
 #![tactic(auto)]
 
 mod drafting;

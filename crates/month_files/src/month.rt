@@ -84,7 +84,8 @@ fn rules_of(alloc: Global, texts: &Texts) -> Result<Rules, BadInput>
 fn pairings_of(alloc: Global, texts: &Texts, rules: &Rules) -> Result<List<Pairing>, BadInput>
     requires short { AreShort (view_texts texts.now) }
     requires rules { GivesRules (view_texts texts.now) rules.now }
-    ensures pairings { Ends (GivesPairings (view_texts texts.now) rules.now) (view_texts texts.now) result }
+    ensures pairings { Ends (GivesPairings (view_texts texts.now) rules.now)
+        (view_texts texts.now) result }
     ensures valid { IfOk result (ArePairings rules.now.horizon) }
 {
     match read_pairings(
@@ -109,7 +110,8 @@ fn members_of(
     requires short { AreShort (view_texts texts.now) }
     requires rules { GivesRules (view_texts texts.now) rules.now }
     requires pairings { GivesPairings (view_texts texts.now) rules.now pairings.now }
-    ensures members { Ends (GivesMembers (view_texts texts.now) rules.now) (view_texts texts.now) result }
+    ensures members { Ends (GivesMembers (view_texts texts.now) rules.now)
+        (view_texts texts.now) result }
     ensures valid { IfOk result (AreMembers rules.now.horizon) }
 {
     match read_members(
@@ -145,7 +147,8 @@ fn bids_of(alloc: Global, texts: &Texts, base: &Base) -> Result<List<List<Bid>>,
     requires short { AreShort (view_texts texts.now) }
     requires base { GivesBase (view_texts texts.now) base.now }
     requires valid_base { IsBase base.now }
-    ensures bids { Ends (λ bids. bids_in base.now (view_texts texts.now).bids ≡ Ok bids) (view_texts texts.now) result }
+    ensures bids { Ends (λ bids. bids_in base.now (view_texts texts.now).bids ≡ Ok bids)
+        (view_texts texts.now) result }
     ensures valid { IfOk result (IsValid base.now) }
 {
     match read_bids(alloc, &texts.bids, base) {
@@ -154,8 +157,8 @@ fn bids_of(alloc: Global, texts: &Texts, base: &Base) -> Result<List<List<Bid>>,
     }
 }
 
-/// The problem that the texts name, or their first fault: in the rules, in the files of pairings, in the files of
-/// members, in the bids.
+/// The problem that the texts name, or their first fault: in the rules, in the files of pairings,
+/// in the files of members, in the bids.
 pub fn read_month(alloc: Global, texts: &Texts) -> Result<Problem, BadInput>
     requires short { AreShort (view_texts texts.now) }
     ensures month { Ends (Names (view_texts texts.now)) (view_texts texts.now) result }

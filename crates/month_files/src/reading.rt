@@ -27,7 +27,8 @@ pub struct Texts {
 pub fn read_file<S: Shelf>(alloc: Global, shelf: &mut S, file: File) -> Result<Vec<u8>, Unread>
     ensures cause { HasCause (S.tally shelf.old) (S.tally shelf.new) result }
     ensures limit { IfOk result (λ v. length v.items ≤ limit_of file) }
-    ensures told { ForSome (S.holds shelf.old) (λ files. Finds (λ v. v.items) result (text_in files file)) }
+    ensures told { ForSome (S.holds shelf.old) (λ files.
+        Finds (λ v. v.items) result (text_in files file)) }
     ensures kept { S.holds shelf.new ≡ S.holds shelf.old }
     ensures logged { S.log shelf.new ≡ with_text (S.log shelf.old) file result }
 {
@@ -48,7 +49,8 @@ pub fn read_texts<S: Shelf>(alloc: Global, shelf: &mut S) -> Result<Texts, Unrea
     ensures told { ForSome (S.holds shelf.old) (λ files. Finds view_texts result (texts_in files)) }
     ensures short { IfOk result (λ t. AreShort (view_texts t)) }
     ensures kept { S.holds shelf.new ≡ S.holds shelf.old }
-    ensures logged { IfOk result (λ t. S.log shelf.new ≡ S.log shelf.old ++ input_texts (view_texts t)) }
+    ensures logged { IfOk result (λ t.
+        S.log shelf.new ≡ S.log shelf.old ++ input_texts (view_texts t)) }
 {
     let rules = read_file(alloc, shelf, File::Rules)?;
     let pairings = read_file(alloc, shelf, File::Pairings)?;

@@ -36,8 +36,10 @@ pub struct Unwritten {
 
 /// Gives a file its bytes.
 fn write_draft<S: Shelf>(alloc: Global, shelf: &mut S, draft: &Draft) -> Result<(), WriteStop>
-    ensures cause { FileCause (name_of draft.now.file) (S.tally shelf.old) (S.tally shelf.new) result }
-    ensures whole { OnOk result (S.holds shelf.new ≡ with_file (S.holds shelf.old) (name_of draft.now.file) draft.now.bytes) }
+    ensures cause { FileCause (name_of draft.now.file) (S.tally shelf.old) (S.tally shelf.new)
+        result }
+    ensures whole { OnOk result (S.holds shelf.new
+        ≡ with_file (S.holds shelf.old) (name_of draft.now.file) draft.now.bytes) }
     ensures others { SameButAt (name_of draft.now.file) (S.holds shelf.old) (S.holds shelf.new) }
     ensures unlogged { S.log shelf.new ≡ S.log shelf.old }
 {

@@ -9,11 +9,11 @@ use crate::diving::dive;
 use crate::guess::{Guess, mixed_of};
 use crate::kept::Kept;
 use crate::known::AllKnown;
-use crate::leaf::{Closed, remembered};
+use crate::leaf::{Closed, Leaf, remembered};
 use crate::mix::Mix;
 use crate::pairs::branch_pair;
 use crate::pricing::Care;
-use crate::relaxing::{Relaxed, relax};
+use crate::relaxing::{Relaxed, plainer, relax};
 use crate::repairing::repair;
 use crate::wholes::whole_of;
 use duty_calendar::{Copied, Memory};
@@ -207,6 +207,26 @@ impl Guide {
         Ok(Guess::Mixed(mixed))
     }
 
+    /// The leaf as a guess, with lenses that see no more than they have to.
+    fn closing(
+        &mut self,
+        alloc: Global,
+        problem: &Problem,
+        goal: &Goal,
+        board: &Board,
+        leaf: Leaf,
+    ) -> Result<Guess, Memory>
+        requires goal { IsGoal problem.now goal.now }
+    {
+        let kept = &mut self.kept;
+        Ok(match leaf {
+            Leaf::Bounded(leaf) => {
+                Guess::Bounded(plainer(alloc, problem, kept, goal, board, leaf)?)
+            }
+            Leaf::NoLine(member, lens) => Guess::NoLine(member, lens),
+        })
+    }
+
     /// A guess at what there is to say of the node.
     pub fn guess(
         &mut self,
@@ -222,13 +242,17 @@ impl Guide {
             if let Some(roster) = self.known.meeting(alloc, problem, goal)? {
                 return Ok(Guess::Whole(roster));
             }
-            if let Some(guess) = remembered(&mut self.closed, goal) {
-                return Ok(guess);
-            }
         }
         let board = Board::of(alloc, problem, node)?;
+        if depth == 0 {
+            if let Some(leaf) = remembered(&mut self.closed, goal) {
+                return self.closing(alloc, problem, goal, &board, leaf);
+            }
+        }
         match self.relaxed(alloc, problem, goal, &board, depth)? {
-            Relaxed::Bounded(leaf) => Ok(Guess::Bounded(leaf)),
+            Relaxed::Bounded(leaf) => {
+                self.closing(alloc, problem, goal, &board, Leaf::Bounded(leaf))
+            }
             Relaxed::NoLine(member, lens) => Ok(Guess::NoLine(member, lens)),
             Relaxed::Miscrewed | Relaxed::Unknown => Ok(Guess::Nothing),
             Relaxed::Open(mix) => self.opened(alloc, problem, goal, &board, mix, depth),

@@ -1,12 +1,15 @@
 //! Lenses that look at more and more.
 
-use duty_calendar::List;
+use duty_calendar::{List, Memory};
 use line_legality::Illegal;
 use roster_model::{Lens, Problem, Window, WindowKind, Wish};
 use std::alloc::Global;
 
 /// How many windows a lens may look at.
 const MOST_WINDOWS: usize = 16;
+
+/// With how many windows a search begins at most: labels that count more are dear.
+const FIRST_WINDOWS: usize = 4;
 
 /// Whether one pairing of a line can decide the wish.
 pub(crate) fn is_trackable(wish: &Wish) -> bool {
@@ -39,6 +42,41 @@ pub(crate) fn first_lens(alloc: Global, problem: &Problem, member: usize) -> Len
         days: false,
         windows: List::new(alloc),
     }
+}
+
+/// Whether the lens is the first one of its member.
+pub(crate) fn is_first(lens: &Lens) -> bool {
+    lens.grain == 60 && !lens.free30 && !lens.days && lens.windows.len() == 0
+}
+
+/// The first lenses of all members.
+pub(crate) fn first_lenses(alloc: Global, problem: &Problem) -> Result<List<Lens>, Memory> {
+    let mut lenses = List::new(alloc);
+    for member in 0..problem.base.members.len() {
+        if lenses.push(first_lens(alloc, problem, member)).is_err() {
+            return Err(Memory::NoMemory);
+        }
+    }
+    Ok(lenses)
+}
+
+/// The lens once more, with the last few of its windows.
+pub(crate) fn lately(alloc: Global, lens: &Lens) -> Result<Lens, Memory> {
+    let all = lens.windows.as_slice();
+    let from = all.len().saturating_sub(FIRST_WINDOWS);
+    let mut windows = List::new(alloc);
+    for window in all.get(from..).unwrap_or(&[]) {
+        if windows.push(*window).is_err() {
+            return Err(Memory::NoMemory);
+        }
+    }
+    Ok(Lens {
+        grain: lens.grain,
+        tracked: lens.tracked,
+        free30: lens.free30,
+        days: lens.days,
+        windows,
+    })
 }
 
 /// Sets a flag, and tells whether it was not set.

@@ -29,7 +29,7 @@ mod wholes;
 pub use guess::{Guess, Mixed, Part};
 pub use guide::Guide;
 pub use kept::are_known;
-pub use over::line_over;
+pub use over::{heaviest_line_over, line_over};
 pub use relaxing::Bounded;
 pub use tested::are_small;
 

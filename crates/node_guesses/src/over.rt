@@ -10,7 +10,7 @@ ghost use Rattle.line_generator.specs.Overs.{IfLine};
 ghost use Rattle.line_generator.specs.declared.above.Over.TheVariants.{Nothing};
 
 use label_lattice::Steps;
-use line_generator::{BestFault, Over, best_over};
+use line_generator::{BestFault, Over, best_over, heaviest_over};
 use roster_model::{Goal, Lens, Node, Problem};
 use std::alloc::Global;
 use std::marker::Brand;
@@ -76,6 +76,80 @@ pub fn line_over(
     ensures none { result ≡ Ok Nothing → IsMostWeight problem.now member goal.now node.now lens.now weights.now over }
 {
     over_from::<Brand>(
+        alloc,
+        problem,
+        member,
+        goal,
+        node,
+        lens,
+        weights,
+        over,
+        limit,
+        Blank::new(1),
+    )
+}
+
+/// The search for the heaviest, whose steps are counted from a blank on.
+fn heaviest_from<L: Ledger>(
+    alloc: Global,
+    problem: &Problem,
+    member: u32,
+    goal: &Goal,
+    node: &Node,
+    lens: &Lens,
+    weights: &[i64],
+    over: i64,
+    limit: u64,
+    blank: Blank,
+) -> Result<Over, BestFault>
+    requires member { member < length problem.now.base.members }
+    requires goal { IsGoal problem.now goal.now }
+    requires node { IsNode problem.now node.now }
+    requires listed { length lens.now.windows < 2 ^ 32 }
+    requires per_pairing { length weights.now ≡ length problem.now.base.pairings }
+    requires small { AreSmallWeights weights.now }
+    requires name { blank.name ≡ L.name }
+    requires parts { blank.parts ≡ L.parts }
+    requires share { 0 < blank.parts }
+    ensures shape { OnOk result (IsLens problem.now member lens.now) }
+    ensures line { IfOk result (λ answer. IfLine answer (λ b. IsLensLine problem.now member goal.now node.now lens.now b.line)) }
+    ensures weight { IfOk result (λ answer. IfLine answer (λ b. weight_of weights.now b.line ≡ b.weight)) }
+    ensures above { IfOk result (λ answer. IfLine answer (λ b. over <ℤ b.weight)) }
+    ensures most { IfOk result (λ answer. IfLine answer (λ b. IsMostWeight problem.now member goal.now node.now lens.now weights.now b.weight)) }
+    ensures none { result ≡ Ok Nothing → IsMostWeight problem.now member goal.now node.now lens.now weights.now over }
+{
+    let mut steps: Steps<L> = Steps::new(blank);
+    heaviest_over(
+        alloc, problem, member, goal, node, lens, weights, over, limit, &mut steps,
+    )
+}
+
+/// As `line_over`, and the line is a heaviest one.
+pub fn heaviest_line_over(
+    alloc: Global,
+    problem: &Problem,
+    member: u32,
+    goal: &Goal,
+    node: &Node,
+    lens: &Lens,
+    weights: &[i64],
+    over: i64,
+    limit: u64,
+) -> Result<Over, BestFault>
+    requires member { member < length problem.now.base.members }
+    requires goal { IsGoal problem.now goal.now }
+    requires node { IsNode problem.now node.now }
+    requires listed { length lens.now.windows < 2 ^ 32 }
+    requires per_pairing { length weights.now ≡ length problem.now.base.pairings }
+    requires small { AreSmallWeights weights.now }
+    ensures shape { OnOk result (IsLens problem.now member lens.now) }
+    ensures line { IfOk result (λ answer. IfLine answer (λ b. IsLensLine problem.now member goal.now node.now lens.now b.line)) }
+    ensures weight { IfOk result (λ answer. IfLine answer (λ b. weight_of weights.now b.line ≡ b.weight)) }
+    ensures above { IfOk result (λ answer. IfLine answer (λ b. over <ℤ b.weight)) }
+    ensures most { IfOk result (λ answer. IfLine answer (λ b. IsMostWeight problem.now member goal.now node.now lens.now weights.now b.weight)) }
+    ensures none { result ≡ Ok Nothing → IsMostWeight problem.now member goal.now node.now lens.now weights.now over }
+{
+    heaviest_from::<Brand>(
         alloc,
         problem,
         member,

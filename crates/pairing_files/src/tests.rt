@@ -213,6 +213,37 @@ fn faults_of_duties(rt: HostRuntime) -> Result<(), Fail> {
     Ok(())
 }
 
+/// So many pairings, P000 and on.
+fn many_pairings(alloc: Global, count: u32) -> Vec<u8> {
+    let mut text = Vec::new(alloc);
+    let _ = text.extend_from_slice(b"pairing,need,credit\n");
+    for i in 0..count {
+        let digits = [
+            b'0' + (i / 100 % 10) as u8,
+            b'0' + (i / 10 % 10) as u8,
+            b'0' + (i % 10) as u8,
+        ];
+        let _ = text.push(b'P');
+        let _ = text.extend_from_slice(&digits);
+        let _ = text.extend_from_slice(b",1,5:00\n");
+    }
+    text
+}
+
+#[test]
+fn limit_of_pairings(rt: HostRuntime) -> Result<(), Fail> {
+    let alloc = rt.alloc();
+    let duties = b"pairing,no,report,parked,release,layover\n".as_slice();
+    let legs = b"pairing,no,from,to,out,in\n".as_slice();
+    let most = many_pairings(alloc, 600);
+    let read = count(alloc, most.as_slice(), duties, legs);
+    assert!(rt; read == fault(FileName::Pairings, 2, FileCode::Empty));
+    let more = many_pairings(alloc, 601);
+    let read = count(alloc, more.as_slice(), duties, legs);
+    assert!(rt; read == fault(FileName::Pairings, 602, FileCode::Limit(2)));
+    Ok(())
+}
+
 static LEG_FAULTS: [(&[u8], u32, FileCode); 16] = [
     (b"", 1, FileCode::Header),
     (b"pairing,no,from,to,out,off\n", 1, FileCode::Header),

@@ -3,6 +3,7 @@ use Rattle.std.proofs.Common.{◌≡◌, ◌≢◌, ℕ, zero, suc, ◌+◌, ◌
 use Rattle.std.specs.List.{AllByRecursion}
 use Rattle.std.proofs.lemmas.Bool.{eqb-true, ne_eqb, false≢true}
 use Rattle.std.proofs.lemmas.List.{nil_from_length}
+use Rattle.field_text.specs.Steps.{◌>>=◌, or_fault}
 use Rattle.roster_model.specs.declared.problem.Problem.{Problem}
 use Rattle.roster_text.specs.declared.fault.RosterTextCode.{RosterTextCode}
 use Rattle.roster_text.specs.declared.fault.RosterTextCode.TheVariants.{NoMemory, Header, Shape, Member, Pairing, Sums, Rows}
@@ -10,7 +11,7 @@ use Rattle.roster_text.specs.declared.fault.RosterTextFault.{RosterTextFault}
 use Rattle.roster_text.specs.RosterText.{member_name, names_text, sums_text, row_text, rows_text, roster_header, IsLine, IsTextOf}
 use Rattle.roster_text.specs.RosterFaults.{is_plain, HasRow, IsWrongRow, HasFault}
 use Rattle.roster_text.specs.NameReading.{word_at, member_at, pairings_at}
-use Rattle.roster_text.specs.RowReading.{◌>>=◌, need, at, fault_at, row_of, sums_at, fields_at, has_fields, row_at, rows_at, ended, roster_of}
+use Rattle.roster_text.specs.RowReading.{at, fault_at, row_of, sums_at, fields_at, has_fields, row_at, rows_at, ended, roster_of}
 use Rattle.roster_text.proofs.Words.{word_takes, word_again, same_front}
 use Rattle.roster_text.proofs.MemberLaws.{member_take, member_again}
 use Rattle.roster_text.proofs.NameLaws.{pairings_take, pairings_again}
@@ -28,13 +29,13 @@ wrong_text e = Err e
 
 -- the reader of a row, by what its parts gave
 abbrev with_sums : List ℕ → Option (List ℕ) → Result (List ℕ × List ℕ) RosterTextCode
-with_sums line o = need Sums o >>= λ after. Ok (line, after)
+with_sums line o = or_fault Sums o >>= λ after. Ok (line, after)
 
 abbrev with_line : Problem → ℕ → Option (List ℕ × List ℕ) → Result (List ℕ × List ℕ) RosterTextCode
-with_line problem m o = need Pairing o >>= λ x. with_sums x.0 (sums_at problem m x.0 x.1)
+with_line problem m o = or_fault Pairing o >>= λ x. with_sums x.0 (sums_at problem m x.0 x.1)
 
 abbrev with_member : Problem → ℕ → Option (List ℕ) → Result (List ℕ × List ℕ) RosterTextCode
-with_member problem m o = need Member o >>= λ rest. with_line problem m (pairings_at problem rest)
+with_member problem m o = or_fault Member o >>= λ rest. with_line problem m (pairings_at problem rest)
 
 -- the reader of rows, by what the first row gave
 abbrev with_first : List ℕ → Read → Read
@@ -309,7 +310,7 @@ roster_wrong problem text fault e = by_header (word_at roster_header text) refl 
         }))
 
     by_header : (o : Option (List ℕ)) → word_at roster_header text ≡ o
-        → (at 1 (need Header o) >>= λ rest. rows_at problem 0 (length problem.base.members) rest >>= ended (length problem.base.members + 2)) ≡ Err fault → HasFault problem text fault
+        → (at 1 (or_fault Header o) >>= λ rest. rows_at problem 0 (length problem.base.members) rest >>= ended (length problem.base.members + 2)) ≡ Err fault → HasFault problem text fault
     by_header None o e =
         let f : fault_at 1 Header ≡ fault = all_is (fault_at 1 Header) fault e in
         inl (record {
@@ -325,7 +326,7 @@ unfolding roster_of rows_at
 fault_found problem text fault (inl h) = by (word_at roster_header text) refl
   where
     by : (o : Option (List ℕ)) → word_at roster_header text ≡ o
-        → (at 1 (need Header o) >>= λ rest. rows_at problem 0 (length problem.base.members) rest >>= ended (length problem.base.members + 2)) ≡ Err fault
+        → (at 1 (or_fault Header o) >>= λ rest. rows_at problem 0 (length problem.base.members) rest >>= ended (length problem.base.members + 2)) ≡ Err fault
     by None o = ap Err (fault_is fault 1 Header refl h.row h.code)
     by (Some rest) o = absurd (h.other rest (word_takes roster_header text rest o))
 fault_found problem text fault (inr (inl w)) =

@@ -3,13 +3,14 @@ use Rattle.std.proofs.Common.{◌≡◌, ℕ, zero, suc, ◌+◌, ◌<◌, ◌�
 use Rattle.std.specs.List.{AllByRecursion}
 use Rattle.std.proofs.lemmas.Bool.{eqb-true}
 use Rattle.std.proofs.lemmas.List.{append-nil, nil_from_length}
+use Rattle.field_text.specs.Steps.{◌>>=◌, or_fault}
 use Rattle.roster_model.specs.declared.problem.Problem.{Problem}
 use Rattle.roster_text.specs.declared.fault.RosterTextCode.{RosterTextCode}
 use Rattle.roster_text.specs.declared.fault.RosterTextCode.TheVariants.{Header, Shape, Member, Pairing, Sums, Rows}
 use Rattle.roster_text.specs.declared.fault.RosterTextFault.{RosterTextFault}
 use Rattle.roster_text.specs.RosterText.{member_name, names_text, sums_text, row_text, rows_text, roster_header, roster_text, IsLine, IsRoster, IsTextOf}
 use Rattle.roster_text.specs.NameReading.{word_at, member_at, pairings_at}
-use Rattle.roster_text.specs.RowReading.{◌>>=◌, need, at, fault_at, sums_at, fields_at, has_fields, row_at, rows_at, ended, roster_of}
+use Rattle.roster_text.specs.RowReading.{at, fault_at, sums_at, fields_at, has_fields, row_at, rows_at, ended, roster_of}
 use Rattle.roster_text.proofs.Words.{word_takes, word_again}
 use Rattle.roster_text.proofs.MemberLaws.{member_take, member_again}
 use Rattle.roster_text.proofs.NameLaws.{pairings_take, pairings_again}
@@ -25,8 +26,8 @@ pub bind_ok : {A B E : Type 0} (r : Result A E) (f : A → Result B E) (y : B) �
 bind_ok (Ok x) f y e = (x, refl, e)
 bind_ok (Err c) f y e = absurd cc
 
-pub need_ok : {A : Type 0} (code : RosterTextCode) (o : Option A) (x : A) → need code o ≡ Ok x → o ≡ Some x
-need_ok code (Some y) x e = ap Some (ok_is (need code (Some y)) y x refl e)
+pub need_ok : {A : Type 0} (code : RosterTextCode) (o : Option A) (x : A) → or_fault code o ≡ Ok x → o ≡ Some x
+need_ok code (Some y) x e = ap Some (ok_is (or_fault code (Some y)) y x refl e)
 need_ok code None x e = absurd cc
 
 at_ok : {A : Type 0} (row : ℕ) (r : Result A RosterTextCode) (x : A) → at row r ≡ Ok x → r ≡ Ok x
@@ -58,10 +59,10 @@ pub record IsRowTaken (problem : Problem) (m : ℕ) (bytes : List ℕ) (x : List
 fields_take : (problem : Problem) (m : ℕ) (bytes : List ℕ) (x : List ℕ × List ℕ) → fields_at problem m bytes ≡ Ok x → IsRowTaken problem m bytes x
 unfolding fields_at
 fields_take problem m bytes x e =
-    let summed : List ℕ × List ℕ → Result (List ℕ × List ℕ) RosterTextCode = λ line. need Sums (sums_at problem m line.0 line.1) >>= λ after. Ok (line.0, after) in
-    let a = bind_ok (need Member (member_at problem m bytes)) (λ rest. need Pairing (pairings_at problem rest) >>= summed) x e in
-    let b = bind_ok (need Pairing (pairings_at problem a.0)) summed x a.2 in
-    let c = bind_ok (need Sums (sums_at problem m b.0.0 b.0.1)) (λ after. Ok (b.0.0, after)) x b.2 in
+    let summed : List ℕ × List ℕ → Result (List ℕ × List ℕ) RosterTextCode = λ line. or_fault Sums (sums_at problem m line.0 line.1) >>= λ after. Ok (line.0, after) in
+    let a = bind_ok (or_fault Member (member_at problem m bytes)) (λ rest. or_fault Pairing (pairings_at problem rest) >>= summed) x e in
+    let b = bind_ok (or_fault Pairing (pairings_at problem a.0)) summed x a.2 in
+    let c = bind_ok (or_fault Sums (sums_at problem m b.0.0 b.0.1)) (λ after. Ok (b.0.0, after)) x b.2 in
     let name = member_take problem m bytes a.0 (need_ok Member (member_at problem m bytes) a.0 a.1) in
     let line = pairings_take problem a.0 b.0 (need_ok Pairing (pairings_at problem a.0) b.0 b.1) in
     let sums = sums_take problem m b.0.0 b.0.1 c.0 (need_ok Sums (sums_at problem m b.0.0 b.0.1) c.0 c.1) in
@@ -172,10 +173,10 @@ pub roster_takes : (problem : Problem) (bytes : List ℕ) (roster : List (List �
 unfolding roster_of
 roster_takes problem bytes roster e =
     let end : List (List ℕ) × List ℕ → Result (List (List ℕ)) RosterTextFault = ended (length problem.base.members + 2) in
-    let a = bind_ok (at 1 (need Header (word_at roster_header bytes))) (λ rest. rows_at problem 0 (length problem.base.members) rest >>= end) roster e in
+    let a = bind_ok (at 1 (or_fault Header (word_at roster_header bytes))) (λ rest. rows_at problem 0 (length problem.base.members) rest >>= end) roster e in
     let b = bind_ok (rows_at problem 0 (length problem.base.members) a.0) end roster a.2 in
     let g = if_ok (eqb (length b.0.1) 0) (fault_at (length problem.base.members + 2) Rows) b.0.0 roster b.2 in
-    let front = word_takes roster_header bytes a.0 (need_ok Header (word_at roster_header bytes) a.0 (at_ok 1 (need Header (word_at roster_header bytes)) a.0 a.1)) in
+    let front = word_takes roster_header bytes a.0 (need_ok Header (word_at roster_header bytes) a.0 (at_ok 1 (or_fault Header (word_at roster_header bytes)) a.0 a.1)) in
     let rows = rows_take problem (length problem.base.members) 0 a.0 b.0 b.1 in
     let nothing : b.0.1 ≡ [] = nil_from_length b.0.1 (eqb-true (length b.0.1) 0 g.0) in
     let whole : bytes ≡ roster_text problem b.0.0 =

@@ -2,6 +2,7 @@
 use Rattle.std.proofs.Common.{◌≡◌, ◌≢◌, ℕ, suc, ◌-◌, ◌+◌, ◌≤◌, ◌<◌, List, [], ◌∷◌, ◌++◌, Result, Ok, Err, refl, sym, ap, ◌∙◌, append_assoc, arith, length, Some}
 use Rattle.std.specs.Prelude.{IfOk, IfErr}
 use Rattle.std.proofs.lemmas.List.{append-nil}
+use Rattle.field_text.specs.Steps.{◌>>=◌}
 use Rattle.roster_model.specs.declared.problem.Problem.{Problem}
 use Rattle.roster_text.specs.declared.fault.RosterTextCode.{RosterTextCode}
 use Rattle.roster_text.specs.declared.fault.RosterTextCode.TheVariants.{NoMemory}
@@ -9,7 +10,7 @@ use Rattle.roster_text.specs.declared.fault.RosterTextFault.{RosterTextFault}
 use Rattle.roster_text.specs.RosterText.{roster_header, roster_text, IsRoster, IsTextOf}
 use Rattle.roster_text.specs.RosterFaults.{HasFault}
 use Rattle.roster_text.specs.NameReading.{word_at}
-use Rattle.roster_text.specs.RowReading.{◌>>=◌, GivesWhole, no_memory, fault_at, row_at, rows_at, roster_of}
+use Rattle.roster_text.specs.RowReading.{GivesWhole, no_memory, fault_at, row_at, rows_at, roster_of}
 use Rattle.roster_text.proofs.RowLaws.{Read, with_front, roster_takes, roster_again}
 use Rattle.roster_text.proofs.FaultLaws.{roster_wrong, fault_found}
 

@@ -3,13 +3,11 @@ use Rattle.std.specs.Prelude.{ℕ, ◌+◌, List, [], ◌∷◌, ◌++◌, lengt
 use Rattle.std.specs.List.{flat_map, range_with_len}
 use Rattle.std.specs.Option.{option_map_or}
 use Rattle.jiff_core.specs.Calendar.{weekday_number}
-use Rattle.duty_calendar.specs.declared.event.Kind.{Kind}
-use Rattle.duty_calendar.specs.declared.event.Kind.TheVariants.{Flight, Ground, Leave}
 use Rattle.duty_calendar.specs.declared.horizon.Horizon.{Horizon}
 use Rattle.duty_calendar.specs.declared.weekday.Weekday.{Weekday}
 use Rattle.duty_calendar.specs.declared.weekday.Weekday.TheVariants.{Mon, Tue, Wed, Thu, Fri, Sat, Sun}
 use Rattle.duty_calendar.specs.Calendar.{day_zero, month_days}
-use Rattle.field_text.specs.Spelling.{number_text, minutes_text}
+use Rattle.field_text.specs.Spelling.{number_text, minutes_text, kind_text}
 use Rattle.roster_model.specs.declared.problem.Problem.{Problem}
 use Rattle.roster_model.specs.Legality.{low_of, high_of}
 use Rattle.roster_model.specs.Rosters.{line_at}
@@ -46,15 +44,10 @@ week = Mon ∷ Tue ∷ Wed ∷ Thu ∷ Fri ∷ Sat ∷ Sun ∷ []
 unfoldable pub weekday_text : Horizon → ℕ → List ℕ
 weekday_text h day = option_map_or weekday_word (slice_get week (weekday_number (day_zero h +ℤ pos day))) []
 
-abbrev pub kind_word : Kind → List ℕ
-kind_word Flight = codes "flight"
-kind_word Ground = codes "ground"
-kind_word Leave = codes "leave"
-
 -- the name of a pairing, or the kind of a fixed event
 abbrev pub mark_word : Problem → Mark → List ℕ
 mark_word problem (Flown p) = pairing_name problem p
-mark_word problem (Fixed kind) = kind_word kind
+mark_word problem (Fixed kind) = kind_text kind
 
 -- the words of entries, with one space between, or a dash where there are none
 abbrev pub entries_text : Problem → List Entry → List ℕ

@@ -1,5 +1,6 @@
 -- Reading the lines of reasons one after another.
-use Rattle.std.specs.Prelude.{◌≡◌, ◌≢◌, ℕ, zero, suc, ◌+◌, List, [], ◌∷◌, ◌++◌, length, Result, Ok, Err}
+use Rattle.std.specs.Prelude.{ℕ, zero, suc, ◌+◌, List, [], ◌∷◌, ◌++◌, length, Result, Ok, Err}
+use Rattle.field_text.specs.Gives.{GivesUnless}
 use Rattle.field_text.specs.Steps.{◌>>=◌, or_fault}
 use Rattle.roster_model.specs.declared.problem.Problem.{Problem}
 use Rattle.roster_model.specs.declared.goal.BidRef.{BidRef}
@@ -13,9 +14,9 @@ use Rattle.roster_text.specs.NameReading.{word_at}
 use Rattle.roster_text.specs.ReasonWords.{Words, words_in, member_named, numbered, cause_named}
 
 -- what a reader of a line returned, seen by `view`, is what is due, unless memory ran out
-abbrev pub Gives : {X Y : Type 0} → (X → Y) → Result X ReasonTextCode → Result Y ReasonTextCode → Type 0
-Gives view (Ok x) due = due ≡ Ok (view x)
-Gives view (Err e) due = e ≢ NoMemory → due ≡ Err e
+abbrev pub Gives : {X Y : Type 0} → (X → Y) → Result X ReasonTextCode → Result Y ReasonTextCode
+    → Type 0
+Gives view result due = GivesUnless NoMemory view result due
 
 -- want of memory, which has no line
 abbrev pub no_memory : ReasonTextFault
@@ -23,8 +24,7 @@ no_memory = record { line = 0; code = NoMemory }
 
 -- the same of what was read as a whole
 abbrev pub Answers : {A : Type 0} → Result A ReasonTextFault → Result A ReasonTextFault → Type 0
-Answers (Ok x) due = due ≡ Ok x
-Answers (Err e) due = e ≢ no_memory → due ≡ Err e
+Answers result due = GivesUnless no_memory (λ x. x) result due
 
 -- a line and a fault in it
 abbrev pub line_of : ℕ → ReasonTextCode → ℕ

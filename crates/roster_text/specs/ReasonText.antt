@@ -20,7 +20,8 @@ cause_text problem (Place (suc m)) = codes "place " ++ number_text (suc m) ++ 32
 -- the member, the number of the bid from 1, and the cause, each with a space before the next
 abbrev pub head_text : Problem → Denial → List ℕ
 head_text problem denial =
-    member_name problem denial.bid.member ++ 32 ∷ number_text (denial.bid.bid + 1) ++ 32 ∷ cause_text problem denial.cause
+    member_name problem denial.bid.member ++ 32 ∷ number_text (denial.bid.bid + 1)
+    ++ 32 ∷ cause_text problem denial.cause
 
 -- a colon and a space, the bid as it is written among the bids, and a line feed
 unfoldable pub end_text : Problem → Denial → List ℕ

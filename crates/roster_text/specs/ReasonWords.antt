@@ -8,6 +8,7 @@ use Rattle.field_text.specs.Spelling.{number_text}
 use Rattle.roster_model.specs.declared.problem.Problem.{Problem}
 use Rattle.roster_model.specs.declared.award.Cause.{Cause}
 use Rattle.roster_model.specs.declared.award.Cause.TheVariants.{Tie, Place}
+use Rattle.roster_text.specs.declared.reason_words.Words.{Words as Lent}
 use Rattle.roster_text.specs.NameReading.{◌>>=◌, word_at}
 use Rattle.roster_text.specs.ReasonFaults.{is_numeral}
 
@@ -37,10 +38,13 @@ is_place x = not (bytes_eq x.0 (codes "0")) && is_name x.1
 
 unfoldable pub place_in : List ℕ → Option (List ℕ × List ℕ)
 place_in cause =
-    word_at (codes "place ") cause >>= λ rest. numeral_in rest >>= λ x. if is_place x then Some x else None
+    word_at (codes "place ") cause >>= λ rest. numeral_in rest >>= λ x.
+    if is_place x then Some x else None
 
 unfoldable pub is_cause : List ℕ → Bool
-is_cause cause = bytes_eq cause (codes "tie") || (bytes_eq cause (codes "place 0") || is_some (place_in cause))
+is_cause cause =
+    bytes_eq cause (codes "tie")
+    || (bytes_eq cause (codes "place 0") || is_some (place_in cause))
 
 -- a cause and a colon
 unfoldable pub cause_in : List ℕ → Option (List ℕ × List ℕ)
@@ -58,10 +62,20 @@ pub record Words : Type 0 where
   pub cause : List ℕ
   pub rest : List ℕ
 
+-- the words that the reader is lent
+abbrev pub words_seen : Lent → Words
+words_seen w = record {
+  member = w.member.now;
+  number = w.number.now;
+  cause = w.cause.now;
+  rest = w.rest.now;
+}
+
 unfoldable pub words_in : List ℕ → Option Words
 words_in bytes =
     name_in bytes >>= λ m. numeral_in m.1 >>= λ k. cause_in k.1 >>= λ c.
-    if is_ended c.1 then Some (record { member = m.0; number = k.0; cause = c.0; rest = c.1 }) else None
+    if is_ended c.1
+    then Some (record { member = m.0; number = k.0; cause = c.0; rest = c.1 }) else None
 
 -- the first of so many numbers from k on that passes the test
 abbrev pub first_from : (ℕ → Bool) → ℕ → ℕ → Option ℕ

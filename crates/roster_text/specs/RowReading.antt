@@ -1,5 +1,7 @@
 -- Reading the rows of a roster's text from left to right.
-use Rattle.std.specs.Prelude.{◌≡◌, ◌≢◌, ℕ, zero, suc, ◌+◌, List, [], ◌∷◌, length, Option, Some, None, Result, Ok, Err, Bool, false, ◌==◌, if◌then◌else◌}
+use Rattle.std.specs.Prelude.{ℕ, zero, suc, ◌+◌, List, [], ◌∷◌, length, Option, Result, Ok, Err, Bool, false, ◌==◌, if◌then◌else◌}
+use Rattle.field_text.specs.Gives.{GivesUnless}
+use Rattle.field_text.specs.Steps.{◌>>=◌, or_fault}
 use Rattle.roster_model.specs.declared.problem.Problem.{Problem}
 use Rattle.roster_text.specs.declared.fault.RosterTextCode.{RosterTextCode}
 use Rattle.roster_text.specs.declared.fault.RosterTextCode.TheVariants.{NoMemory, Header, Shape, Member, Pairing, Sums, Rows}
@@ -7,21 +9,10 @@ use Rattle.roster_text.specs.declared.fault.RosterTextFault.{RosterTextFault}
 use Rattle.roster_text.specs.RosterText.{sums_text, roster_header}
 use Rattle.roster_text.specs.NameReading.{member_at, names_at, line_at, pairings_at, word_at}
 
-infixl 10 ◌>>=◌
-abbrev pub ◌>>=◌ : {A B E : Type 0} → Result A E → (A → Result B E) → Result B E
-(Ok x) >>= f = f x
-(Err e) >>= f = Err e
-
--- a value, or this fault where there is none
-abbrev pub need : {A : Type 0} → RosterTextCode → Option A → Result A RosterTextCode
-need code (Some x) = Ok x
-need code None = Err code
-
 -- what a reader of a row returned, seen by `view`, is what is due, unless memory ran out
 abbrev pub Gives : {X Y : Type 0} → (X → Y) → Result X RosterTextCode → Result Y RosterTextCode
     → Type 0
-Gives view (Ok x) due = due ≡ Ok (view x)
-Gives view (Err e) due = e ≢ NoMemory → due ≡ Err e
+Gives view result due = GivesUnless NoMemory view result due
 
 -- want of memory, which has no row
 abbrev pub no_memory : RosterTextFault
@@ -30,8 +21,7 @@ no_memory = record { row = 0; code = NoMemory }
 -- the same of a reader of more than a row
 abbrev pub GivesWhole : {X Y : Type 0} → (X → Y) → Result X RosterTextFault → Result Y RosterTextFault
     → Type 0
-GivesWhole view (Ok x) due = due ≡ Ok (view x)
-GivesWhole view (Err e) due = e ≢ no_memory → due ≡ Err e
+GivesWhole view result due = GivesUnless no_memory view result due
 
 -- the same of what was read as a whole
 abbrev pub Answers : {A : Type 0} → Result A RosterTextFault → Result A RosterTextFault → Type 0
@@ -56,13 +46,13 @@ at row (Err code) = Err (fault_at row code)
 
 -- what stands in a row for its pairings
 abbrev pub names_in : Problem → List ℕ → Result (List ℕ × List ℕ) RosterTextCode
-names_in problem bytes = need Pairing (names_at problem 0 (length problem.base.pairings) bytes)
+names_in problem bytes = or_fault Pairing (names_at problem 0 (length problem.base.pairings) bytes)
 
 abbrev pub line_in : Problem → List ℕ → Result (List ℕ × List ℕ) RosterTextCode
-line_in problem bytes = need Pairing (line_at problem bytes)
+line_in problem bytes = or_fault Pairing (line_at problem bytes)
 
 abbrev pub pairings_in : Problem → List ℕ → Result (List ℕ × List ℕ) RosterTextCode
-pairings_in problem bytes = need Pairing (pairings_at problem bytes)
+pairings_in problem bytes = or_fault Pairing (pairings_at problem bytes)
 
 -- whether four fields and a line feed stand here, where so many commas stood before
 abbrev pub fields_from : ℕ → List ℕ → Bool
@@ -78,9 +68,9 @@ sums_at problem m line bytes = word_at (sums_text problem m line) bytes
 
 unfoldable pub fields_at : Problem → ℕ → List ℕ → Result (List ℕ × List ℕ) RosterTextCode
 fields_at problem m bytes = do
-  rest ← need Member (member_at problem m bytes)
-  line ← need Pairing (pairings_at problem rest)
-  after ← need Sums (sums_at problem m line.0 line.1)
+  rest ← or_fault Member (member_at problem m bytes)
+  line ← or_fault Pairing (pairings_at problem rest)
+  after ← or_fault Sums (sums_at problem m line.0 line.1)
   Ok (line.0, after)
 
 unfoldable pub row_at : Problem → ℕ → List ℕ → Result (List ℕ × List ℕ) RosterTextCode
@@ -104,6 +94,6 @@ ended row rows = if length rows.1 == 0 then Ok rows.0 else Err (fault_at row Row
 
 unfoldable pub roster_of : Problem → List ℕ → Result (List (List ℕ)) RosterTextFault
 roster_of problem bytes = do
-  rest ← at 1 (need Header (word_at roster_header bytes))
+  rest ← at 1 (or_fault Header (word_at roster_header bytes))
   rows ← rows_in problem rest
   ended (length problem.base.members + 2) rows

@@ -58,7 +58,8 @@ impl From<Memory> for RosterTextCode {
     }
 }
 
-/// The first row, from 1, at which a text differs from all rosters' texts, and why. The header is row 1.
+/// The first row, from 1, at which a text differs from all rosters' texts, and why. The header is
+/// row 1.
 #[derive(Clone, Copy, Debug, PartialEq, Eq, Error)]
 #[error("row {row}: {code}")]
 pub struct RosterTextFault {

@@ -1,25 +1,22 @@
 //! Printing the view of a member's month.
-ghost use Rattle.std.specs.Prelude.{◌≡◌, ◌++◌, ◌∷◌, ◌+◌, ◌-◌, ◌<◌, ◌≤◌, IfOk, OnOk, All, length};
+ghost use Rattle.std.specs.Prelude.{◌≡◌, ◌++◌, ◌∷◌, ◌+◌, ◌<◌, ◌≤◌, IfOk, OnOk, All, length};
 ghost use Rattle.std.specs.List.{flat_map};
 ghost use Rattle.duty_calendar.specs.Calendar.{month_days};
 ghost use Rattle.field_text.specs.Spelling.{number_text, minutes_text};
 ghost use Rattle.roster_model.specs.Legality.{low_of, high_of};
 ghost use Rattle.roster_model.specs.Rosters.{line_at};
 ghost use Rattle.roster_model.specs.Scores.{bids_of};
-ghost use Rattle.bid_language.specs.Spelling.{weekday_word, day_word};
 ghost use Rattle.roster_text.specs.RosterText.{pairing_name};
 ghost use Rattle.roster_text.specs.MonthEntries.{IsListedInTime};
-ghost use Rattle.roster_text.specs.MonthText.{window_text, worth_text, sums_line, weekday_text, kind_word, mark_word, entries_text, day_line, days_text, bid_line, bids_text, line_month, month_text};
+ghost use Rattle.roster_text.specs.MonthText.{window_text, worth_text, sums_line, weekday_text, mark_word, entries_text, day_line, days_text, bid_line, bids_text, line_month, month_text};
 
 use crate::month_entries::{Entry, Mark, entries_on};
 use crate::printing::put_member;
 use crate::reason_reading::bid_count;
-use bid_language::put_bid;
+use bid_language::{put_bid, put_date, weekday_word};
 use bid_score::{credit, days_off, granted, score};
-use duty_calendar::{Horizon, Kind, List, Memory, Weekday};
-use field_text::{put_bytes, put_day, put_minutes, put_number};
-use jiff::civil::Date;
-use jiff_core::civil;
+use duty_calendar::{Horizon, List, Memory};
+use field_text::{kind_word, put_bytes, put_minutes, put_number};
 use roster_model::{BidRef, Line, Problem, Roster};
 use std::alloc::Global;
 
@@ -95,41 +92,6 @@ fn put_sums_line(
     put_bytes(out, b"\n")
 }
 
-/// The date of a day of the month.
-fn date_of(horizon: &Horizon, day: u32) -> Date
-    requires first { 365 ≤ day }
-    requires last { day < 365 + month_days horizon.now }
-    ensures year { result.year ≡ horizon.now.year }
-    ensures month { result.month ≡ horizon.now.month }
-    ensures day { result.day ≡ day - 364 }
-{
-    Date::from_plain(civil::Date::constrain(horizon.year, horizon.month, (day - 364) as u8))
-}
-
-/// Appends a day of the month.
-fn put_date(out: &mut List<u8>, horizon: &Horizon, day: u32) -> Result<(), Memory>
-    requires first { 365 ≤ day }
-    requires last { day < 365 + month_days horizon.now }
-    ensures whole { OnOk result (out.new ≡ out.old ++ day_word horizon.now day) }
-{
-    put_day(out, date_of(horizon, day))
-}
-
-/// The three letters of a day of the week.
-fn weekday_word(weekday: Weekday) -> &'static [u8]
-    ensures word { result.now ≡ weekday_word weekday }
-{
-    match weekday {
-        Weekday::Mon => b"MON",
-        Weekday::Tue => b"TUE",
-        Weekday::Wed => b"WED",
-        Weekday::Thu => b"THU",
-        Weekday::Fri => b"FRI",
-        Weekday::Sat => b"SAT",
-        Weekday::Sun => b"SUN",
-    }
-}
-
 /// Appends the three letters of the day of the week of a day of the month.
 #[tactic(auto, using(crate::proofs::Months::weekday_named))]
 fn put_weekday(out: &mut List<u8>, horizon: &Horizon, day: u32) -> Result<(), Memory>
@@ -140,20 +102,9 @@ fn put_weekday(out: &mut List<u8>, horizon: &Horizon, day: u32) -> Result<(), Me
     put_bytes(out, weekday_word(horizon.weekday(day)))
 }
 
-/// The word of a kind of event.
-fn kind_word(kind: Kind) -> &'static [u8]
-    ensures word { result.now ≡ kind_word kind }
-{
-    match kind {
-        Kind::Flight => b"flight",
-        Kind::Ground => b"ground",
-        Kind::Leave => b"leave",
-    }
-}
-
 /// The name of a pairing.
 fn name_of(problem: &Problem, pairing: u32) -> &[u8]
-    ensures name { result.now ≡ pairing_name problem.now pairing }
+    ensures value { result.now ≡ pairing_name problem.now pairing }
 {
     match problem.base.pairings.as_slice().get(pairing as usize) {
         Some(known) => known.name.bytes(),
@@ -163,7 +114,7 @@ fn name_of(problem: &Problem, pairing: u32) -> &[u8]
 
 /// What is written for an entry.
 fn mark_word(problem: &Problem, mark: Mark) -> &[u8]
-    ensures word { result.now ≡ mark_word problem.now mark }
+    ensures value { result.now ≡ mark_word problem.now mark }
 {
     match mark {
         Mark::Flown(pairing) => name_of(problem, pairing),

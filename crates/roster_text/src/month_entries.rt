@@ -87,7 +87,8 @@ fn entries_of(
 ) -> Result<Vec<Entry>, Memory>
     requires member { member < length problem.now.base.members }
     requires in_range { All (λ p. p < length problem.now.base.pairings) line.now }
-    ensures value { IfOk result (λ entries. entries.items ≡ entries_of problem.now member line.now) }
+    ensures value { IfOk result (λ entries.
+        entries.items ≡ entries_of problem.now member line.now) }
 {
     let mut entries = Vec::new(alloc);
     push_pairings(&mut entries, problem, line)?;

@@ -27,7 +27,8 @@ fn after_separator(bytes: &[u8]) -> Option<(&[u8], bool)>
 #[tactic(auto, unfolding(crate::specs::NameReading::name_at))]
 fn after_name<'a>(problem: &Problem, pairing: u32, bytes: &'a [u8]) -> Option<(&'a [u8], bool)>
     requires in_range { pairing < length problem.now.base.pairings }
-    ensures value { option_map (λ x. (x.0.now, x.1)) result ≡ name_at problem.now pairing bytes.now }
+    ensures value { option_map (λ x. (x.0.now, x.1)) result
+        ≡ name_at problem.now pairing bytes.now }
 {
     let name = &problem.base.pairings.as_slice()[pairing as usize].name;
     let rest = bytes.strip_prefix(name.bytes())?;

@@ -133,7 +133,8 @@ pub fn print_roster(alloc: Global, problem: &Problem, roster: &Roster) -> Result
     requires in_range { All (All (λ p. p < length problem.now.base.pairings)) roster.now }
     ensures text { IfOk result (λ text. text ≡ roster_text problem.now roster.now) }
     ensures form { IsRoster problem.now roster.now }
-    ensures again { IfOk result (λ text. (r : Lines) → IsTextOf problem.now text r → r ≡ roster.now) }
+    ensures again { IfOk result (λ text.
+        (r : Lines) → IsTextOf problem.now text r → r ≡ roster.now) }
     ensures short { IfOk result (λ text. length text ≤ longest_text) }
 {
     let mut out = List::new(alloc);

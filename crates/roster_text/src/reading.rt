@@ -52,7 +52,8 @@ fn after_sums<'a>(
 ) -> Result<Option<&'a [u8]>, Memory>
     requires member { member < length problem.now.base.members }
     requires in_range { All (λ p. p < length problem.now.base.pairings) line.now }
-    ensures value { IfOk result (λ o. option_map (λ x. x.now) o ≡ sums_at problem.now member line.now bytes.now) }
+    ensures value { IfOk result (λ o. option_map (λ x. x.now) o
+        ≡ sums_at problem.now member line.now bytes.now) }
 {
     let mut sums = List::new(alloc);
     put_sums(&mut sums, problem, member, line)?;
@@ -149,7 +150,8 @@ fn whole_of(alloc: Global, problem: &Problem, text: &[u8]) -> Result<Roster, Ros
 pub fn read_roster(alloc: Global, text: &[u8], problem: &Problem) -> Result<Roster, RosterTextFault>
     ensures read { IfOk result (λ roster. roster_text problem.now roster ≡ text.now) }
     ensures form { IfOk result (IsRoster problem.now) }
-    ensures fault { IfErr result (λ fault. fault ≢ no_memory → HasFault problem.now text.now fault) }
+    ensures fault { IfErr result (λ fault. fault ≢ no_memory
+        → HasFault problem.now text.now fault) }
     ensures only { (r : Lines) → IsTextOf problem.now text.now r → Answers result (Ok r) }
     ensures first { (f : Fault) → HasFault problem.now text.now f → Answers result (Err f) }
 {

@@ -10,7 +10,7 @@ ghost use Rattle.roster_text.specs.NameReading.{word_at};
 ghost use Rattle.roster_text.specs.ReasonFaults.{HasReasonFault, Listed};
 ghost use Rattle.roster_text.specs.ReasonText.{reasons_text, IsReasonsText};
 ghost use Rattle.roster_text.specs.ReasonReading.{Gives, Answers, no_memory, bid_end, denial_of, reason_at, reasons_of};
-ghost use Rattle.roster_text.specs.ReasonWords.{is_number, member_named, numbered, place_named, cause_named};
+ghost use Rattle.roster_text.specs.ReasonWords.{is_number, member_named, numbered, place_named, cause_named, words_seen};
 
 use crate::reason_fault::{ReasonTextCode, ReasonTextFault, fault_at};
 use crate::reason_words::{Words, place_in, words_in};
@@ -92,7 +92,7 @@ fn cause_named(alloc: Global, problem: &Problem, cause: &[u8]) -> Result<Option<
 /// How many bids the member has.
 pub fn bid_count(problem: &Problem, member: usize) -> u32
     requires member { member < length problem.now.base.members }
-    ensures count { result ≡ length (bids_of problem.now member) }
+    ensures value { result ≡ length (bids_of problem.now member) }
 {
     let lists = problem.bids.as_slice();
     lists[member].len() as u32
@@ -101,7 +101,7 @@ pub fn bid_count(problem: &Problem, member: usize) -> u32
 /// The reason that the words name.
 #[tactic(auto, unfolding(crate::specs::ReasonReading::denial_of))]
 fn denial_of(alloc: Global, problem: &Problem, words: &Words<'_>) -> Result<Denial, ReasonTextCode>
-    ensures value { Gives (λ d. d) result (denial_of problem.now (record { member = words.now.member.now; number = words.now.number.now; cause = words.now.cause.now; rest = words.now.rest.now })) }
+    ensures value { Gives (λ d. d) result (denial_of problem.now (words_seen words.now)) }
     ensures known { IfOk result (λ d. IsBidOf problem.now d.bid) }
 {
     let Some(member) = member_named(problem, words.member) else {
@@ -138,7 +138,8 @@ fn after_bid<'a>(
     bytes: &'a [u8],
 ) -> Result<Option<&'a [u8]>, Memory>
     requires bid { IsBidOf problem.now bid }
-    ensures value { IfOk result (λ o. option_map (λ x. x.now) o ≡ word_at (bid_end problem.now bid) bytes.now) }
+    ensures value { IfOk result (λ o. option_map (λ x. x.now) o
+        ≡ word_at (bid_end problem.now bid) bytes.now) }
 {
     let mut text = List::new(alloc);
     put_bid_end(&mut text, problem, bid)?;
@@ -186,8 +187,8 @@ fn whole_of(alloc: Global, problem: &Problem, text: &[u8]) -> Result<Reasons, Re
     Ok(reasons)
 }
 
-/// The reasons of a text, or the first line at which the text differs from all texts of reasons. Whether these are the
-/// reasons of an award, in their order, is not tested here.
+/// The reasons of a text, or the first line at which the text differs from all texts of reasons.
+/// Whether these are the reasons of an award, in their order, is not tested here.
 pub fn read_reasons(
     alloc: Global,
     text: &[u8],
@@ -197,7 +198,8 @@ pub fn read_reasons(
     ensures read { IfOk result (λ reasons. reasons_text problem.now reasons ≡ text.now) }
     ensures bids { IfOk result (All (λ d. IsBidOf problem.now d.bid)) }
     ensures places { IfOk result (All (λ d. place_of d.cause ≤ length problem.now.base.members)) }
-    ensures fault { IfErr result (λ fault. fault ≢ no_memory → HasReasonFault problem.now text.now fault) }
+    ensures fault { IfErr result (λ fault. fault ≢ no_memory
+        → HasReasonFault problem.now text.now fault) }
     ensures only { (r : Listed) → IsReasonsText problem.now text.now r → Answers result (Ok r) }
     ensures first { (f : Fault) → HasReasonFault problem.now text.now f → Answers result (Err f) }
 {

@@ -1,13 +1,14 @@
 //! The words of a reason's line.
-ghost use Rattle.std.specs.Prelude.{◌≡◌, ◌≢◌, ℕ, ◌<◌, ◌≤◌, ◌==◌, length, slice_index};
+ghost use Rattle.std.specs.Prelude.{◌≡◌, ◌==◌};
 ghost use Rattle.std.specs.List.{list_all, list_any};
 ghost use Rattle.std.specs.Option.{option_map};
 ghost use Rattle.std.specs.Char.{is_ascii_digit};
 ghost use Rattle.duty_calendar.specs.Forms.{is_name};
 ghost use Rattle.roster_text.specs.ReasonFaults.{is_numeral};
-ghost use Rattle.roster_text.specs.ReasonWords.{cut, name_in, numeral_in, is_place, place_in, is_cause, cause_in, is_ended, words_in};
+ghost use Rattle.roster_text.specs.ReasonWords.{cut, name_in, numeral_in, is_place, place_in, is_cause, cause_in, is_ended, words_in, words_seen};
 
 use duty_calendar::Name;
+use field_text::place_of;
 
 /// The words of a line, and what stands behind the colon.
 #[derive(Clone, Copy)]
@@ -16,20 +17,6 @@ pub struct Words<'a> {
     pub number: &'a [u8],
     pub cause: &'a [u8],
     pub rest: &'a [u8],
-}
-
-/// The first place of a byte, or the length where there is none.
-fn place_of(byte: u8, bytes: &[u8]) -> usize
-    ensures within { result ≤ length bytes.now }
-    ensures before { (k : ℕ) → k < result → slice_index bytes.now k ≢ byte }
-    ensures found { result < length bytes.now → slice_index bytes.now result ≡ byte }
-{
-    for (i, b) in bytes.iter().enumerate() {
-        if *b == byte {
-            return i;
-        }
-    }
-    bytes.len()
 }
 
 /// What stands before the first such byte, and behind it.
@@ -154,7 +141,7 @@ fn is_ended(bytes: &[u8]) -> bool
 /// The words of a line, where it has the form of a reason's.
 #[tactic(auto, unfolding(crate::specs::ReasonWords::words_in))]
 pub fn words_in(bytes: &[u8]) -> Option<Words<'_>>
-    ensures words { option_map (λ w. record { member = w.member.now; number = w.number.now; cause = w.cause.now; rest = w.rest.now }) result ≡ words_in bytes.now }
+    ensures value { option_map words_seen result ≡ words_in bytes.now }
 {
     let (member, rest) = name_in(bytes)?;
     let (number, rest) = numeral_in(rest)?;

@@ -1,5 +1,5 @@
 -- How a text reads as rules, and its first fault.
-use Rattle.std.specs.Prelude.{◌≡◌, ℕ, List, Bool, codes, nat_le, nat_lt, ℤ, pos, negsuc, ◌&&◌, Option, Some, None, option_and_then, Result, Ok, Err, IfSome, if◌then◌else◌}
+use Rattle.std.specs.Prelude.{ℕ, List, Bool, codes, nat_le, nat_lt, ℤ, pos, negsuc, ◌&&◌, Option, Some, None, option_and_then, Result, Ok, Err, if◌then◌else◌}
 use Rattle.std.specs.Str.{is_utf8}
 use Rattle.duty_calendar.specs.Forms.{is_seat, is_station_code}
 use Rattle.duty_calendar.specs.declared.member.Rules.{Rules}
@@ -111,7 +111,3 @@ told fault.NotToml = Some fault.NotToml
 told (fault.MissingKey key) = Some (fault.MissingKey key)
 told (fault.UnknownKey key) = Some (fault.UnknownKey key)
 told (fault.Range key) = Some (fault.Range key)
-
--- reading has this fault, unless memory ran out
-abbrev pub Fails : {A : Type 0} → RuleFault → Result A RuleFault → Type 0
-Fails e read = IfSome (told e) (λ f. read ≡ Err f)

@@ -12,6 +12,7 @@ ghost use Rattle.duty_calendar.specs.Forms.{is_seat, is_seat_byte};
 
 use crate::keys::value_at;
 use duty_calendar::{Horizon, Name, Rules, Station};
+use field_text::station_of;
 use toml::Table;
 
 fn text_at<'a>(table: &'a Table, key: &str) -> Option<&'a str>
@@ -86,14 +87,10 @@ fn offset_in(table: &Table) -> Option<i16>
 fn base_in(table: &Table) -> Option<Station>
     ensures value { result ≡ base_in (table_view table.now) }
 {
-    let Some(text) = text_at(table, "base") else {
-        return None;
-    };
-    let bytes = text.as_bytes();
-    if bytes.len() != 3 {
-        return None;
+    match text_at(table, "base") {
+        Some(text) => station_of(text.as_bytes()),
+        None => None,
     }
-    Station::new([bytes[0], bytes[1], bytes[2]])
 }
 
 fn are_seat_bytes(bytes: &[u8]) -> bool

@@ -1,4 +1,5 @@
--- What whole readings and whole writings do to the bytes that a reader has left and a writer holds, where those are known.
+-- What whole readings and whole writings do to the bytes that a reader has left and a writer holds,
+-- where those are known.
 use Rattle.std.specs.Prelude.{ℕ, ◌≡◌, ◌<◌, List, ◌++◌, length, Option}
 use Rattle.std.specs.Io.KnownBytes.{Consumes, Appends}
 

@@ -1,4 +1,5 @@
-//! What reads have handed in. Only clauses and proofs see it: it takes no memory, and a note does nothing at run time.
+//! What reads have handed in. Only clauses and proofs see it: it takes no memory, and a note does
+//! nothing at run time.
 ghost use Rattle.std.specs.Prelude.{◌≡◌, ℕ, List, [], ◌∷◌, ◌++◌};
 ghost use Rattle.std.specs.Borrow.{ftrue};
 

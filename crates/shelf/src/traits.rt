@@ -18,7 +18,8 @@ pub trait Shelf {
     /// What has gone wrong so far.
     ghost tally: { Self → Tally };
 
-    /// What reads have handed in so far: the name and the bytes of each read that answered Ok, in order.
+    /// What reads have handed in so far: the name and the bytes of each read that answered Ok, in
+    /// order.
     ghost log: { Self → Entries };
 
     /// The bytes of a file, if they are at most `limit`.

@@ -9,6 +9,8 @@ use Rattle.duty_calendar.specs.declared.horizon.Horizon.{Horizon}
 use Rattle.duty_calendar.specs.declared.member.Member.{Member}
 use Rattle.duty_calendar.specs.declared.pairing.Pairing.{Pairing}
 use Rattle.duty_calendar.specs.Checks.{AreMembers, ArePairings, IsMember, IsPairing}
+use Rattle.roster_model.specs.declared.bid.Bid.{Bid}
+use Rattle.roster_model.specs.Valid.{IsBid}
 
 no_pairs : {X : Type 0} (R : X → X → Type 0) → AllPairs R []
 no_pairs R i j d lt within = absurd (omega arith)
@@ -54,3 +56,12 @@ other_names list m first second = All-weaker (λ (n : Member). n.name ≡ 77 ∷
 
 pub named : (list : List Member) (m : Member) → list ≡ m ∷ [] → m.name ≡ 77 ∷ 49 ∷ [] → All (λ n. n.name ≡ 77 ∷ 49 ∷ []) list
 named list m is e = subst (All (λ (n : Member). n.name ≡ 77 ∷ 49 ∷ [])) (sym is) (All-from_recursion (λ (n : Member). n.name ≡ 77 ∷ 49 ∷ []) (m ∷ []) (e, tt))
+
+-- the bids of two members, where there are four pairings
+pub bids_of_two : (h : Horizon) (count : ℕ) (senior junior : List Bid) (start first bids : List (List Bid)) → start ≡ [] → first ≡ start ++ senior ∷ [] → bids ≡ first ++ junior ∷ [] → count ≡ 4 → All (IsBid h 4) senior → All (IsBid h 4) junior
+    → All (All (IsBid h count)) bids
+bids_of_two h count senior junior start first bids empty one two four s j =
+    let nothing : All (All (IsBid h 4)) start = subst (All (All (IsBid h 4))) (sym empty) (none (All (IsBid h 4))) in
+    let single : All (All (IsBid h 4)) first = subst (All (All (IsBid h 4))) (sym one) (All-push (All (IsBid h 4)) start senior nothing s) in
+    let both : All (All (IsBid h 4)) bids = subst (All (All (IsBid h 4))) (sym two) (All-push (All (IsBid h 4)) first junior single j) in
+    subst (λ (n : ℕ). All (All (IsBid h n)) bids) (sym four) both

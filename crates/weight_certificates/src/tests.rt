@@ -1,8 +1,10 @@
 //! June 2026 in Dublin: nodes that are closed, solved, and open.
-ghost use Rattle.std.specs.Prelude.{◌≡◌, ◌≢◌, ◌+◌, ◌<◌, ◌≤◌, ◌++◌, ◌∷◌, [], ℕ, All, IfOk, length, true};
+ghost use Rattle.std.specs.Prelude.{◌≡◌, ◌≢◌, ◌+◌, ◌<◌, ◌≤◌, ◌++◌, ◌∷◌, [], ℕ, All, IfOk, IsTrue, length, true};
+ghost use Rattle.std.specs.Option.{ForSome};
 ghost use Rattle.duty_calendar.specs.Calendar.{month_days};
 ghost use Rattle.duty_calendar.specs.declared.horizon.Horizon.{Horizon as Month};
 ghost use Rattle.duty_calendar.specs.Checks.{AreMembers, ArePairings, IsDuty, IsMember, IsPairing, IsRules};
+ghost use Rattle.duty_calendar.specs.Forms.{is_station_code};
 ghost use Rattle.roster_model.specs.declared.bid.Wish.TheVariants.{Fly};
 ghost use Rattle.roster_model.specs.Valid.{IsBid};
 
@@ -11,7 +13,7 @@ use branch_log::{Closer, Verdict};
 use duty_calendar::{
     Base, Duty, Flown, Horizon, Leg, List, Member, Memory, Name, Pairing, Rules, Station,
 };
-use roster_model::{Bid, Goal, Item, Node, Problem, Wish};
+use roster_model::{Atom, Bid, Goal, Item, Node, Problem, Test, Wish};
 use std::alloc::Global;
 
 /// The list with one element more.
@@ -22,6 +24,35 @@ fn with<T: Drop>(mut list: List<T>, item: T) -> Result<List<T>, Memory>
         Ok(()) => Ok(list),
         Err(_item) => Err(Memory::NoMemory),
     }
+}
+
+/// A duty with one leg from a station to another, and a night at a third, if there is one.
+fn shift(
+    alloc: Global,
+    report: u32,
+    from: Station,
+    to: Station,
+    layover: Option<Station>,
+) -> Result<Duty, Memory>
+    requires in_month { report ≤ 600000 }
+    requires from { IsTrue (is_station_code from) }
+    requires to { IsTrue (is_station_code to) }
+    requires stays { ForSome layover (λ s. IsTrue (is_station_code s)) }
+    ensures form { IfOk result IsDuty }
+    ensures report { IfOk result (λ d. d.report ≡ report) }
+    ensures release { IfOk result (λ d. d.release ≡ report + 390) }
+{
+    let flown = Flown {
+        out_at: report + 60,
+        in_at: report + 300,
+    };
+    Ok(Duty {
+        report,
+        parked: report + 360,
+        release: report + 390,
+        layover,
+        legs: with(List::new(alloc), Leg { from, to, flown })?,
+    })
 }
 
 /// The day's duty from 8 to 14 o'clock, with one leg.
@@ -36,18 +67,7 @@ fn duty(alloc: Global, day: u32) -> Result<Duty, Memory>
     let (Some(from), Some(to)) = (Station::new(*b"DUB"), Station::new(*b"LHR")) else {
         return Err(Memory::NoMemory);
     };
-    let report = 525_600 + 1440 * (day - 1) + 480;
-    let flown = Flown {
-        out_at: report + 60,
-        in_at: report + 300,
-    };
-    Ok(Duty {
-        report,
-        parked: report + 360,
-        release: report + 390,
-        layover: None,
-        legs: with(List::new(alloc), Leg { from, to, flown })?,
-    })
+    shift(alloc, 525_600 + 1440 * (day - 1) + 480, from, to, None)
 }
 
 /// A pairing of one duty, on a day by its number, which names it.
@@ -80,6 +100,20 @@ fn is_new(pairings: &[Pairing], name: &Name) -> bool
     pairings.iter().all(|pairing| pairing.name != *name)
 }
 
+/// The list with one pairing more, which has a name of its own.
+fn with_pairing(list: List<Pairing>, pairing: Pairing) -> Result<List<Pairing>, Memory>
+    requires few { length list < 600 }
+    requires list { (h : Month) → 30 ≤ month_days h → ArePairings h list }
+    requires pairing { (h : Month) → 30 ≤ month_days h → IsPairing h pairing }
+    ensures count { IfOk result (λ longer. length longer ≡ length list + 1) }
+    ensures form { IfOk result (λ longer. (h : Month) → 30 ≤ month_days h → ArePairings h longer) }
+{
+    if !is_new(list.as_slice(), &pairing.name) {
+        return Err(Memory::NoMemory);
+    }
+    with(list, pairing)
+}
+
 /// So many pairings, one day after the other.
 fn pairings(alloc: Global, count: u32, need: u32) -> Result<List<Pairing>, Memory>
     requires few { count ≤ 600 }
@@ -91,12 +125,44 @@ fn pairings(alloc: Global, count: u32, need: u32) -> Result<List<Pairing>, Memor
     let mut list = List::new(alloc);
     for number in 0..count {
         let pairing = pairing(alloc, number, need)?;
-        if !is_new(list.as_slice(), &pairing.name) {
-            return Err(Memory::NoMemory);
-        }
-        list = with(list, pairing)?;
+        list = with_pairing(list, pairing)?;
     }
     Ok(list)
+}
+
+/// A pairing of two duties with a night at the stop between them, by its first day.
+fn trip(alloc: Global, name: &[u8], day: u32, stop: [u8; 3]) -> Result<Pairing, Memory>
+    requires from { 1 ≤ day }
+    requires to { day < 30 }
+    ensures form { IfOk result (λ p. (h : Month) → 30 ≤ month_days h → IsPairing h p) }
+{
+    let (Some(dublin), Some(stop)) = (Station::new(*b"DUB"), Station::new(stop)) else {
+        return Err(Memory::NoMemory);
+    };
+    let Some(name) = Name::new(name) else {
+        return Err(Memory::NoMemory);
+    };
+    let morning = 525_600 + 1440 * (day - 1) + 480;
+    let out = shift(alloc, morning, dublin, stop, Some(stop))?;
+    let back = shift(alloc, morning + 1560, stop, dublin, None)?;
+    Ok(Pairing {
+        name,
+        need: 1,
+        credit: 600,
+        duties: with(with(List::new(alloc), out)?, back)?,
+    })
+}
+
+/// Four trips, with nights in Chicago and in Denver by turns.
+#[tactic(auto, using(crate::proofs::Months::no_pairings))]
+fn trips(alloc: Global) -> Result<List<Pairing>, Memory>
+    ensures count { IfOk result (λ list. length list ≡ 4) }
+    ensures form { IfOk result (λ list. (h : Month) → 30 ≤ month_days h → ArePairings h list) }
+{
+    let first = with_pairing(List::new(alloc), trip(alloc, b"P1", 3, *b"ORD")?)?;
+    let second = with_pairing(first, trip(alloc, b"P2", 6, *b"DEN")?)?;
+    let third = with_pairing(second, trip(alloc, b"P3", 13, *b"ORD")?)?;
+    with_pairing(third, trip(alloc, b"P4", 16, *b"DEN")?)
 }
 
 /// The rules of the month.
@@ -173,6 +239,46 @@ fn first_pairing(alloc: Global) -> Result<List<Bid>, Memory>
     with(List::new(alloc), bid)
 }
 
+/// The bid to have the days off, by their numbers.
+fn off(first: u32, last: u32) -> Bid
+    requires from { 365 ≤ first }
+    requires order { first ≤ last }
+    requires to { last < 395 }
+    ensures form { (h : Month) → 30 ≤ month_days h → IsBid h 4 result }
+{
+    Bid {
+        weight: 10,
+        wish: Wish::Off(first, last),
+    }
+}
+
+/// The bid to have no night at the stop.
+fn avoid(alloc: Global, stop: [u8; 3]) -> Result<Bid, Memory>
+    ensures form { IfOk result (λ bid. (h : Month) → 30 ≤ month_days h → IsBid h 4 bid) }
+{
+    let Some(stop) = Station::new(stop) else {
+        return Err(Memory::NoMemory);
+    };
+    let atom = Atom {
+        negated: false,
+        test: Test::Layover(stop),
+    };
+    Ok(Bid {
+        weight: 10,
+        wish: Wish::Avoid(with(List::new(alloc), atom)?),
+    })
+}
+
+/// Two bids.
+fn two_bids(alloc: Global, first: Bid, second: Bid) -> Result<List<Bid>, Memory>
+    requires first { (h : Month) → 30 ≤ month_days h → IsBid h 4 first }
+    requires second { (h : Month) → 30 ≤ month_days h → IsBid h 4 second }
+    ensures few { IfOk result (λ list. length list ≤ 64) }
+    ensures form { IfOk result (λ list. (h : Month) → 30 ≤ month_days h → All (IsBid h 4) list) }
+{
+    with(with(List::new(alloc), first)?, second)
+}
+
 /// The month.
 fn month(
     pairings: List<Pairing>,
@@ -183,7 +289,7 @@ fn month(
     requires members { (h : Month) → AreMembers h members }
     requires lists { length bids ≡ length members }
     requires few_bids { All (λ list. length list ≤ 64) bids }
-    requires each_bid { (h : Month) → All (All (IsBid h (length pairings))) bids }
+    requires each_bid { (h : Month) → 30 ≤ month_days h → All (All (IsBid h (length pairings))) bids }
     ensures members { IfOk result (λ p. length p.base.members ≡ length members) }
     ensures pairings { IfOk result (λ p. length p.base.pairings ≡ length pairings) }
 {
@@ -227,6 +333,18 @@ fn contest(alloc: Global) -> Result<Problem, Memory>
     let bids = with(with(List::new(alloc), senior)?, junior)?;
     let members = rivals(alloc, 0, 5400)?;
     month(pairings(alloc, 1, 1)?, members, bids)
+}
+
+/// The month of two members who are to fly two of four trips each, of which no weights tell that what the senior wishes
+/// leaves the junior no wish.
+fn halved(alloc: Global) -> Result<Problem, Memory>
+    ensures members { IfOk result (λ p. length p.base.members ≡ 2) }
+{
+    let senior = two_bids(alloc, off(367, 371), off(377, 381))?;
+    let junior = two_bids(alloc, avoid(alloc, *b"ORD")?, avoid(alloc, *b"DEN")?)?;
+    let bids = with(with(List::new(alloc), senior)?, junior)?;
+    let members = rivals(alloc, 1200, 1200)?;
+    month(trips(alloc)?, members, bids)
 }
 
 /// What a closer says of the empty node.
@@ -299,5 +417,20 @@ fn two_share_two_pairings(rt: HostRuntime) -> Result<(), Memory> {
     let problem = shared(alloc, 2, 1, 300, 300)?;
     let verdict = verdict(alloc, &problem, List::new(alloc))?;
     assert!(rt; matches!(verdict, Verdict::Whole(_)));
+    Ok(())
+}
+
+#[test]
+fn halves_of_good_lines_leave_a_node_open(rt: HostRuntime) -> Result<(), Memory> {
+    let alloc = rt.alloc();
+    let problem = halved(alloc)?;
+    let floors = with(with(List::new(alloc), 10)?, 1)?;
+    match verdict(alloc, &problem, floors)? {
+        Verdict::Branch(member, pairing) => {
+            assert!(rt; member < 2);
+            assert!(rt; pairing < 4);
+        }
+        _ => panic!(rt; "no weights close the node, and no roster solves it"),
+    }
     Ok(())
 }

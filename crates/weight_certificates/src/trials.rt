@@ -10,14 +10,12 @@ use crate::lists::append;
 use crate::rows::{product, set_miss};
 use duty_calendar::{List, Memory};
 use line_generator::{BestFault, Over};
-use node_guesses::{are_small, line_over};
+use node_guesses::{are_small, heaviest_line_over, line_over};
 use roster_model::{Goal, Lens, Line, Node, Problem, Roster};
 use std::alloc::Global;
 
 /// How many steps a search for a line may take.
 const MOST_STEPS: u64 = 2_000_000;
-/// How often a bound is raised to the weight of a line.
-const MOST_RAISES: u32 = 1_000;
 
 /// The weight in 32 bits.
 fn narrow(weight: i64) -> i32
@@ -39,9 +37,9 @@ pub(crate) fn narrowed(alloc: Global, weights: &[i64]) -> Result<List<i32>, Memo
     Ok(List::from_vec(list))
 }
 
-/// The heaviest line that passes the lens, by raising a bound to the weights of lines that are found; none where none
-/// is above the first bound, or a search takes too many steps.
-fn raised_line(
+/// The heaviest line that passes the lens and is above the bound; none where there is none, or where the search takes
+/// too many steps.
+fn heaviest_above(
     alloc: Global,
     problem: &Problem,
     member: u32,
@@ -49,7 +47,7 @@ fn raised_line(
     node: &Node,
     lens: &Lens,
     weights: &[i64],
-    from: i64,
+    bound: i64,
 ) -> Result<Option<Line>, Memory>
     requires member { member < length problem.now.base.members }
     requires goal { IsGoal problem.now goal.now }
@@ -61,27 +59,18 @@ fn raised_line(
     if lens.windows.len() > 16 {
         return Ok(None);
     }
-    let mut over = from;
-    let mut best: Option<Line> = None;
-    for _ in 0..MOST_RAISES {
-        match line_over(
-            alloc, problem, member, goal, node, lens, weights, over, MOST_STEPS,
-        ) {
-            Ok(Over::Line(priced)) => {
-                over = priced.weight;
-                best = Some(priced.line);
-            }
-            Ok(Over::Nothing) => return Ok(best),
-            Ok(Over::Limit) => return Ok(None),
-            Err(BestFault::NoMemory) => return Err(Memory::NoMemory),
-            Err(BestFault::Lens(_why)) => return Ok(None),
-        }
+    match heaviest_line_over(
+        alloc, problem, member, goal, node, lens, weights, bound, MOST_STEPS,
+    ) {
+        Ok(Over::Line(priced)) => Ok(Some(priced.line)),
+        Ok(Over::Nothing) | Ok(Over::Limit) => Ok(None),
+        Err(BestFault::NoMemory) => Err(Memory::NoMemory),
+        Err(BestFault::Lens(_why)) => Ok(None),
     }
-    Ok(None)
 }
 
 /// A heaviest line of each member by its lens, each above a bound of its own.
-fn raised_round(
+fn heaviest_lines(
     alloc: Global,
     problem: &Problem,
     goal: &Goal,
@@ -100,12 +89,12 @@ fn raised_round(
 {
     let mut round = List::new(alloc);
     for (member, lens) in lenses.iter().enumerate() {
-        let from = match bounds.get(member) {
+        let bound = match bounds.get(member) {
             Some(bound) => *bound,
             None => i64::MIN,
         };
         let member = member as u32;
-        let Some(line) = raised_line(alloc, problem, member, goal, node, lens, weights, from)?
+        let Some(line) = heaviest_above(alloc, problem, member, goal, node, lens, weights, bound)?
         else {
             return Ok(None);
         };
@@ -164,7 +153,7 @@ pub(crate) fn is_outweighed(
     if !are_small(weights) {
         return Ok(false);
     }
-    let Some(round) = raised_round(alloc, problem, goal, node, lenses, weights, bounds)? else {
+    let Some(round) = heaviest_lines(alloc, problem, goal, node, lenses, weights, bounds)? else {
         return Ok(false);
     };
     let mut miss = vec![in alloc; 0i64; pairings]?;

@@ -4,10 +4,10 @@ use Rattle.bid_language.proofs.LineSteps.{lines-first, lines-whole}
 use Rattle.bid_language.proofs.lines.next_line.Goals as goal
 
 pub returns-then-end-text-clause-lines : goal.returns-then-end-text-clause-lines
-returns-then-end-text-clause-lines c = lines-whole c.args.text.now c.find-end.result c.requires.some c.if-end-text.true c.find-end.ensures.before
+returns-then-end-text-clause-lines c = lines-whole c.args.text.now c.place_of-end.result c.requires.some c.if-end-text.true c.place_of-end.ensures.before
 
 pub returns-clause-lines : goal.returns-clause-lines
 returns-clause-lines c =
     let t = c.args.text.now in
-    let n = c.find-end.result in
-    rw (take_rest t (n + 1), add-one n, c.without_return.ensures.value) (lines-first n [] t (omega arith) c.find-end.ensures.before (c.find-end.ensures.found (omega arith)))
+    let n = c.place_of-end.result in
+    rw (take_rest t (n + 1), add-one n, c.without_return.ensures.value) (lines-first n [] t (omega arith) c.place_of-end.ensures.before (c.place_of-end.ensures.found (omega arith)))

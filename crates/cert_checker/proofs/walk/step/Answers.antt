@@ -25,16 +25,16 @@ returns-in_ok-outweighed-in-Weights-clause-goes c =
 
 pub returns-in_ok-count-in-Count-clause-node : goal.returns-in_ok-count-in-Count-clause-node
 returns-in_ok-count-in-Count-clause-node c =
-    node_open c.args.problem.now c.args.node.now c.turn.new.self c.turn.result c.requires.node c.turn.ensures.behind
+    node_open c.args.problem.now c.args.node.now c.turn.new.self c.turn.result c.requires.asked.node_fits c.turn.ensures.behind
 
 pub returns-in_ok-fixed-in-Fixed-clause-node : goal.returns-in_ok-fixed-in-Fixed-clause-node
 returns-in_ok-fixed-in-Fixed-clause-node c =
-    node_open c.args.problem.now c.args.node.now c.turn-in-Fixed.new.self c.turn-in-Fixed.result c.requires.node c.turn-in-Fixed.ensures.behind
+    node_open c.args.problem.now c.args.node.now c.turn-in-Fixed.new.self c.turn-in-Fixed.result c.requires.asked.node_fits c.turn-in-Fixed.ensures.behind
 
 pub returns-in_ok-noline-in-NoLine-clause-node : goal.returns-in_ok-noline-in-NoLine-clause-node
 returns-in_ok-noline-in-NoLine-clause-node c =
-    node_open c.args.problem.now c.args.node.now c.turn-in-NoLine.new.self c.turn-in-NoLine.result c.requires.node c.turn-in-NoLine.ensures.behind
+    node_open c.args.problem.now c.args.node.now c.turn-in-NoLine.new.self c.turn-in-NoLine.result c.requires.asked.node_fits c.turn-in-NoLine.ensures.behind
 
 pub returns-in_ok-outweighed-in-Weights-clause-node : goal.returns-in_ok-outweighed-in-Weights-clause-node
 returns-in_ok-outweighed-in-Weights-clause-node c =
-    node_open c.args.problem.now c.args.node.now c.turn-in-Weights.new.self c.turn-in-Weights.result c.requires.node c.turn-in-Weights.ensures.behind
+    node_open c.args.problem.now c.args.node.now c.turn-in-Weights.new.self c.turn-in-Weights.result c.requires.asked.node_fits c.turn-in-Weights.ensures.behind

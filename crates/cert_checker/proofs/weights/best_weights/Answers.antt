@@ -11,7 +11,7 @@ returns-in_err-sum-clause-fault c =
     let here = slice_get_read list (length list) c.loop-member.member c.index-lenses-member.result refl c.loop-member-test.true c.index-lenses-member.is in
     err_at c.from_residual.result c.in_err-sum.field-0.0 _ c.from_residual.ensures.1
     (nothing_first c.args.problem.now c.args.goal.now c.args.node.now c.args.weights.now list c.loop-member.member (to_z w64 c.loop-member.sum-bits) c.index-lenses-member.result c.in_err-sum.field-0.0
-    c.loop-member.invariant.together c.requires.shapes here c.in_err-sum.ensures.fault)
+    c.loop-member.invariant.together c.requires.asked.shapes here c.in_err-sum.ensures.fault)
 
 pub loop-member-preserved : goal.loop-member-preserved
 loop-member-preserved c =
@@ -20,7 +20,7 @@ loop-member-preserved c =
     let list = c.args.lenses.now in
     let here = slice_get_read list (length list) k c.index-lenses-member.result refl c.loop-member-test.true c.index-lenses-member.is in
     let few : k * 1288490188200 + 1288490188200 < 9223372036854775808 =
-    omega (arith, c.loop-member-test.true, c.requires.per_member, c.args.problem.now.valid.month.members_form.few) in
+    omega (arith, c.loop-member-test.true, c.requires.asked.per_member, c.args.problem.now.valid.month.members_form.few) in
     let new = sum_kept (k * 1288490188200) 1288490188200 sum c.in_ok-sum.field-0 few c.loop-member.invariant.within c.in_ok-sum.ensures.within in
     record {
       together =

@@ -1,4 +1,4 @@
-use Rattle.std.proofs.Common.{◌<◌, ◌≤◌, ◌-◌, ◌^◌, List, length, get_or, arith, ◌∙◌, ap}
+use Rattle.std.proofs.Common.{◌≤◌, ◌-◌, ◌^◌, List, length, get_or, arith, ◌∙◌, ap}
 use Rattle.label_lattice.specs.declared.masks.MaskStep.{MaskStep}
 use Rattle.label_setter.specs.declared.graph.Arc.{Arc}
 use Rattle.chain_search.proofs.LastingBits.{and_first, in_through, none_more}

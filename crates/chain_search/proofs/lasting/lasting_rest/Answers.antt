@@ -1,10 +1,8 @@
-use Rattle.std.proofs.Common.{◌≡◌, ◌+◌, ◌-◌, ◌<◌, ◌≤◌, ◌^◌, ◌++◌, [], ◌∷◌, List, ℕ, Some, get_or, length, arith, sym, ◌∙◌, ap}
-use Rattle.std.specs.Prelude.{slice_get}
+use Rattle.std.proofs.Common.{◌≡◌, ◌+◌, ◌-◌, ◌≤◌, ◌^◌, ◌++◌, [], ◌∷◌, List, ℕ, arith, ◌∙◌, ap}
 use Rattle.label_lattice.specs.declared.masks.MaskStep.{MaskStep}
 use Rattle.label_lattice.specs.declared.masks.MaskEnd.{MaskEnd}
 use Rattle.label_lattice.specs.Mask.{mask_done, mask_extend}
 use Rattle.label_lattice.specs.Pair.{pair_done, pair_extend}
-use Rattle.label_setter.specs.declared.graph.Arc.{Arc}
 use Rattle.chain_search.proofs.LastingBits.{clears_all, get_last, inside_all, kept_more, kept_start, lasting_is_rest}
 use Rattle.chain_search.proofs.RestLemmas.{rest_is_bound}
 use Rattle.chain_search.proofs.Walking.{fits_at}
@@ -46,6 +44,6 @@ returns g c =
     let end = c.loop-back.auto.back-end (omega arith) in
     record {
       rest = rest_is_bound (pair_extend g.A.Resource.extend (pair_extend mask_extend g.B.Resource.extend)) (pair_done g.A.Resource.done (pair_done mask_done g.B.Resource.done)) c.args.graph.now _ (lasting_is_rest g.A.Resource.extend g.A.Resource.done g.B.Resource.extend g.B.Resource.done c.args.graph.now
-          (record { rows = c.loop-back.rows; sink = c.sink_of-sink.result; end = c.end.result.now.1.0 }) c.loop-back.back sink (omega (arith, sink, past, end)) c.sink_of-sink.ensures.graph
-          (ap (λ (e : g.row.A-End.Denot × (MaskEnd × g.row.B-End.Denot)). e.1.0) c.end.ensures.end) c.loop-back.invariant.rows);
+          (record { rows = c.loop-back.rows; sink = c.sink_of-sink.result; last = c.new.result }) c.loop-back.back sink (omega (arith, sink, past, end)) c.sink_of-sink.ensures.graph
+          (c.new.ensures.end ∙ ap (λ (e : g.row.A-End.Denot × (MaskEnd × g.row.B-End.Denot)). e.1.0) c.end.ensures.end) c.loop-back.invariant.rows);
     }

@@ -1,7 +1,8 @@
-use Rattle.std.proofs.Common.{◌≡◌, ◌+◌, ◌-◌, ◌<◌, ◌++◌, [], ℕ, ℤ, List, Some, length, get_or, pos, take, drop, arith, ◌∙◌, ap, subst}
+use Rattle.std.proofs.Common.{◌≡◌, ◌+◌, ◌-◌, ◌*◌, ◌<◌, ◌++◌, [], ℕ, ℤ, List, Some, length, get_or, pos, take, drop, arith, sym, ◌∙◌, ap, subst}
 use Rattle.std.specs.Prelude.{slice_get}
 use Rattle.label_setter.specs.declared.graph.Arc.{Arc}
 use Rattle.chain_search.specs.Rows.{GoesBack, IsBetween, IsLowOrBack}
+use Rattle.chain_search.proofs.Raising.{last_more, last_start}
 use Rattle.chain_search.proofs.TableRows.{filled_more, filled_start, bound_of_table, seen_of_table, written}
 use Rattle.chain_search.proofs.table.coarse_rest.Goals as goal
 
@@ -11,12 +12,25 @@ loop-back-init g c =
     c.in_ok-extend_from_slice.ensures.items ∙ (ap (λ (xs : List ℤ). xs ++ c.deref.result.now) c.in_ok-table.ensures.items ∙ ap (λ (ys : List ℤ). [] ++ ys) c.deref.ensures.value) in
     record {
       wide = c.in_ok-row.ensures.long;
+      last = λ state less. last_start c.extend_from_slice.new.self.items c.in_ok-row.row.items (g.C.Coarse.count c.args.coarse) state table_is;
       filled = filled_start (λ (step : g.row.R-Step.Denot). g.C.Coarse.moves (g.C.Coarse.move_of c.args.coarse step)) (g.C.Coarse.ends c.args.coarse) (g.C.Coarse.count c.args.coarse) c.args.graph.now.places c.args.graph.now.arcs c.sink_of-sink.ensures.graph
           c.extend_from_slice.new.self.items c.in_ok-row.row.items table_is c.in_ok-row.ensures.long c.in_ok-row.ensures.between c.in_ok-row.ensures.ends c.in_ok-row.ensures.value;
     }
 
 pub place_row-requires-clause-leaving : goal.place_row-requires-clause-leaving
 place_row-requires-clause-leaving g c = c.requires.ways.leaving (c.sink_of-sink.result - c.loop-back.back) c.from.result.now c.from.ensures.leaving
+
+pub place_row-requires-clause-last : goal.place_row-requires-clause-last
+place_row-requires-clause-last g c = λ state less.
+    let count = g.C.Coarse.count c.args.coarse in
+    let sink = c.sink_of-sink.ensures.sink in
+    let before = c.loop-back-test.true in
+    let some = c.loop-back.auto.back in
+    let at : c.loop-back.back - 1 ≡ c.args.graph.now.places - 2 - (c.sink_of-sink.result - c.loop-back.back) = omega (arith, sink, before, some) in
+    ap (λ (xs : List ℤ). get_or xs state (pos 0)) c.deref_mut.ensures.value
+    ∙ (c.loop-back.invariant.last state less
+    ∙ (ap (λ n. get_or c.loop-back.table.items (n * count + state) (pos 0)) at
+    ∙ sym (ap (λ (xs : List ℤ). get_or xs ((c.args.graph.now.places - 2 - (c.sink_of-sink.result - c.loop-back.back)) * count + state) (pos 0)) c.deref-in-loop-back.ensures.value)))
 
 pub loop-back-preserved : goal.loop-back-preserved
 loop-back-preserved g c =
@@ -38,6 +52,7 @@ loop-back-preserved g c =
     λ state small. subst (λ (xs : List ℤ). IsLowOrBack moves (g.C.Coarse.count c.args.coarse) (c.args.graph.now.places - 1) c.args.graph.now.arcs place xs state (get_or c.place_row.new.row state (pos 0))) c.deref-in-loop-back.ensures.value (c.place_row.ensures.from state small) in
     record {
       wide = ap length same ∙ wide;
+      last = λ state less. ap (λ (xs : List ℤ). get_or xs state (pos 0)) same ∙ last_more c.loop-back.table.items c.extend_from_slice-in-loop-back.new.self.items c.place_row.new.row c.loop-back.back (g.C.Coarse.count c.args.coarse) state table_is c.loop-back.invariant.filled.long;
       filled = filled_more moves (g.C.Coarse.ends c.args.coarse) (g.C.Coarse.count c.args.coarse) c.args.graph.now.places c.args.graph.now.arcs c.sink_of-sink.ensures.graph c.loop-back.table.items c.extend_from_slice-in-loop-back.new.self.items c.place_row.new.row c.loop-back.back place some at table_is wide between
           (λ number arc is state next small move. laws.stays arc.step state next small move) goes froms c.loop-back.invariant.filled;
     }

@@ -1,7 +1,7 @@
 use Rattle.std.proofs.Common.{◌∙◌, ◌++◌, ◌∷◌, [], List, ℕ, ap, flat_map}
 use Rattle.std.proofs.lemmas.Result.{on_ok_weaker}
-use Rattle.field_text.specs.Spelling.{minutes_text}
-use Rattle.crew_files.specs.Texts.{kind_text, times_fields, flights_text}
+use Rattle.field_text.specs.Spelling.{minutes_text, kind_text}
+use Rattle.crew_files.specs.Texts.{times_fields, flights_text}
 use Rattle.crew_files.proofs.Puts.{line-split}
 use Rattle.crew_files.proofs.writing.put_event.Goals as goal
 

@@ -5,16 +5,16 @@ use Rattle.field_text.proofs.RowForms.{fault_from-next, fault_from-stops, fault_
 use Rattle.field_text.proofs.form.row_fault.Goals as goal
 use Rattle.field_text.proofs.form.row_fault.Goals.{then-i-text-via-then-i-text, then-i-text-via-else-i-text+then-not-contains}
 
-pub returns-then-text-classes-clause-column : goal.returns-then-text-classes-clause-column
-returns-then-text-classes-clause-column c =
+pub returns-then-text-classes-clause-value : goal.returns-then-text-classes-clause-value
+returns-then-text-classes-clause-value c =
     sym (sym c.loop-i.invariant.same ∙ fault_from-whole (c.args.column + c.loop-i.i) c.loop-i.i c.args.classes.now c.args.text.now (omega arith) (omega arith))
 
 pub returns-then-text-classes-clause-row : goal.returns-then-text-classes-clause-row
 returns-then-text-classes-clause-row c =
     row_from_none c.args.column c.args.classes.now c.args.text.now (sym c.loop-i.invariant.same ∙ fault_from-whole (c.args.column + c.loop-i.i) c.loop-i.i c.args.classes.now c.args.text.now (omega arith) (omega arith))
 
-pub returns-else-text-classes-clause-column : goal.returns-else-text-classes-clause-column
-returns-else-text-classes-clause-column c = sym (sym c.loop-i.invariant.same ∙ fault_from-more (c.args.column + c.loop-i.i) c.loop-i.i c.args.classes.now c.args.text.now (omega arith) (omega arith) ∙ ap Some (omega arith))
+pub returns-else-text-classes-clause-value : goal.returns-else-text-classes-clause-value
+returns-else-text-classes-clause-value c = sym (sym c.loop-i.invariant.same ∙ fault_from-more (c.args.column + c.loop-i.i) c.loop-i.i c.args.classes.now c.args.text.now (omega arith) (omega arith) ∙ ap Some (omega arith))
 
 pub loop-i-preserved : goal.loop-i-preserved
 loop-i-preserved c =
@@ -25,8 +25,8 @@ loop-i-preserved c =
       same = sym (fault_from-next (c.args.column + c.loop-i.i) (c.args.column + (c.loop-i.i + 1)) c.loop-i.i c.args.classes.now c.args.text.now (omega arith) (omega arith) q h) ∙ c.loop-i.invariant.same;
     }
 
-pub returns-then-i-text-clause-column : goal.returns-then-i-text-clause-column
-returns-then-i-text-clause-column c =
+pub returns-then-i-text-clause-value : goal.returns-then-i-text-clause-value
+returns-then-i-text-clause-value c =
     elim c.then-i-text.branch [
       | then-i-text-via-then-i-text w ↦
           sym (sym c.loop-i.invariant.same ∙ fault_from-at_end (c.args.column + c.loop-i.i) c.loop-i.i c.args.classes.now c.args.text.now (omega arith) (omega arith))

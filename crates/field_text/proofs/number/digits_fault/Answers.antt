@@ -9,9 +9,9 @@ loop-i-preserved c = record {
   same = sym (digits-next c.args.column c.loop-i.i c.args.text.now (omega arith) (sym c.if-not-is_ascii_digit.ensures.value)) ∙ c.loop-i.invariant.same;
 }
 
-pub returns-then-not-is_ascii_digit-clause-column : goal.returns-then-not-is_ascii_digit-clause-column
-returns-then-not-is_ascii_digit-clause-column c =
+pub returns-then-not-is_ascii_digit-clause-value : goal.returns-then-not-is_ascii_digit-clause-value
+returns-then-not-is_ascii_digit-clause-value c =
     sym (sym c.loop-i.invariant.same ∙ digits-stop c.args.column c.loop-i.i c.args.text.now (omega arith) (sym c.if-not-is_ascii_digit.ensures.value))
 
-pub returns-clause-column : goal.returns-clause-column
-returns-clause-column c = sym (sym c.loop-i.invariant.same ∙ digits-end c.args.column c.loop-i.i c.args.text.now (omega arith))
+pub returns-clause-value : goal.returns-clause-value
+returns-clause-value c = sym (sym c.loop-i.invariant.same ∙ digits-end c.args.column c.loop-i.i c.args.text.now (omega arith))

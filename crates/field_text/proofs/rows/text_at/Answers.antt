@@ -6,7 +6,7 @@ use Rattle.field_text.proofs.TextRows.{within-at}
 use Rattle.field_text.proofs.rows.text_at.Goals as goal
 
 pub unreachable-requires : goal.unreachable-requires
-unreachable-requires c = field-there (fields_of c.args.row.now) c.args.i c.requires.within (sym c.in-None.ensures.value)
+unreachable-requires c = field-there (fields_of c.args.row.now) c.args.i c.requires.in_range (sym c.in-None.ensures.value)
 
 pub returns-clause-value : goal.returns-clause-value
 returns-clause-value c = sym (field-get (fields_of c.args.row.now) c.args.i c.in-Some.field.now (sym c.in-Some.ensures.value))

@@ -8,12 +8,12 @@ use Rattle.field_text.proofs.word.name_fault.Goals as goal
 and_true : {a b : Bool} → a ≡ true → b ≡ true → (a && b) ≡ true
 and_true p q = rw (p, q) refl
 
-pub returns-then-i-eq16-clause-column : goal.returns-then-i-eq16-clause-column
-returns-then-i-eq16-clause-column c =
+pub returns-then-i-eq16-clause-value : goal.returns-then-i-eq16-clause-value
+returns-then-i-eq16-clause-value c =
     sym (name-same c.args.text.now c.requires.some ∙ sym c.loop-i.invariant.same ∙ name-full (c.loop-i.i + 1) c.loop-i.i (16 - c.loop-i.i) c.args.text.now (omega arith) (omega arith) ∙ ap Some (omega arith))
 
-pub returns-then-not-contains-clause-column : goal.returns-then-not-contains-clause-column
-returns-then-not-contains-clause-column c =
+pub returns-then-not-contains-clause-value : goal.returns-then-not-contains-clause-value
+returns-then-not-contains-clause-value c =
     sym (name-same c.args.text.now c.requires.some ∙ sym c.loop-i.invariant.same ∙ name-stop (c.loop-i.i + 1) c.loop-i.i (16 - c.loop-i.i) c.args.text.now (omega arith) (cc))
 
 pub loop-i-preserved : goal.loop-i-preserved
@@ -23,5 +23,5 @@ loop-i-preserved c = record {
   same = sym (name-next (c.loop-i.i + 1) c.loop-i.i (16 - c.loop-i.i) (16 - (c.loop-i.i + 1)) c.args.text.now (omega arith) (omega arith) (cc)) ∙ c.loop-i.invariant.same;
 }
 
-pub returns-clause-column : goal.returns-clause-column
-returns-clause-column c = sym (name-same c.args.text.now c.requires.some ∙ sym c.loop-i.invariant.same ∙ name-end (c.loop-i.i + 1) c.loop-i.i (16 - c.loop-i.i) c.args.text.now (omega arith))
+pub returns-clause-value : goal.returns-clause-value
+returns-clause-value c = sym (name-same c.args.text.now c.requires.some ∙ sym c.loop-i.invariant.same ∙ name-end (c.loop-i.i + 1) c.loop-i.i (16 - c.loop-i.i) c.args.text.now (omega arith))

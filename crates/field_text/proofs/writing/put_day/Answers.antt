@@ -6,5 +6,5 @@ use Rattle.field_text.proofs.writing.put_day.Goals as goal
 
 pub returns-clause-again : goal.returns-clause-again
 returns-clause-again c =
-    let e = pos-abs c.args.value.year c.requires.year.0 in
-    date-again c.args.value (unsigned_abs c.args.value.year) e (omega (arith, signed_arith, e, c.requires.year.1))
+    let e = pos-abs c.args.value.year c.requires.in_range.0 in
+    date-again c.args.value (unsigned_abs c.args.value.year) e (omega (arith, signed_arith, e, c.requires.in_range.1))

@@ -2,7 +2,7 @@ use Rattle.std.proofs.Common.{ℤ, FitsSigned, w64, rules, subst}
 use Rattle.std.specs.Prelude.{IfOk}
 use Rattle.std.proofs.lemmas.Int.{to_z-of_z}
 use Rattle.line_lens.specs.TakeLabels.{take_done, take_extend}
-use Rattle.line_generator.specs.Climbs.{Climbs}
+use Rattle.chain_search.specs.Climbs.{Climbs}
 use Rattle.line_generator.proofs.stages.climb_by_tables.Goals as goal
 
 pub returns-clause-climbs : goal.returns-clause-climbs

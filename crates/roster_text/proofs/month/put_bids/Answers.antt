@@ -8,4 +8,4 @@ pub loop-bid-preserved : goal.loop-bid-preserved
 loop-bid-preserved c =
     ranged (bid_line c.args.problem.now c.args.member c.args.line.now) c.loop-bid.out c.put_bid_line.new.out _ c.loop-bid.bid
     (length (bids_of c.args.problem.now c.args.member))
-    (omega (arith, c.loop-bid-test.true, c.bid_count-bid-end.ensures.count)) c.in_ok-put_bid_line.ensures.whole c.loop-bid.invariant
+    (omega (arith, c.loop-bid-test.true, c.bid_count-bid-end.ensures.value)) c.in_ok-put_bid_line.ensures.whole c.loop-bid.invariant

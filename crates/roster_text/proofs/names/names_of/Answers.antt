@@ -1,7 +1,7 @@
 use Rattle.std.proofs.Common.{◌≡◌, ℕ, List, [], ◌∷◌, ◌++◌, Bool, true, false, Some, sym, ap, ◌∙◌, length, arith}
+use Rattle.field_text.specs.Steps.{or_fault}
 use Rattle.roster_text.specs.declared.fault.RosterTextCode.TheVariants.{Pairing}
 use Rattle.roster_text.specs.NameReading.{name_at}
-use Rattle.roster_text.specs.RowReading.{need}
 use Rattle.roster_text.proofs.Several.{pushed}
 use Rattle.roster_text.proofs.NameLaws.{names_skip, names_more_of, names_last, names_end}
 use Rattle.roster_text.proofs.names.names_of.Goals as goal
@@ -17,7 +17,7 @@ returns-then-is_last c =
     let here : name_at c.args.problem.now c.loop-pairing.pairing c.loop-pairing.rest.now ≡ Some (c.in-Some.after.now, true) =
     sym c.in-Some.ensures.value ∙ ap (λ (b : Bool). Some (c.in-Some.after.now, b)) c.if-is_last.true in
     record {
-      read = ap (need Pairing)
+      read = ap (or_fault Pairing)
           (names_last c.args.problem.now c.loop-pairing.line (length c.args.problem.now.base.pairings) c.loop-pairing.pairing c.loop-pairing.rest.now c.in-Some.after.now _
           (omega (arith, c.loop-pairing-test.true, c.len-pairing-end.ensures)) here c.loop-pairing.invariant
           ∙ ap (λ (line : List ℕ). Some (line, c.in-Some.after.now)) (sym e));
@@ -34,6 +34,6 @@ loop-pairing-preserved c =
 pub returns : goal.returns
 returns c =
     record {
-      read = λ _. ap (need Pairing) (names_end c.args.problem.now c.loop-pairing.line (length c.args.problem.now.base.pairings) c.loop-pairing.pairing c.loop-pairing.rest.now _
+      read = λ _. ap (or_fault Pairing) (names_end c.args.problem.now c.loop-pairing.line (length c.args.problem.now.base.pairings) c.loop-pairing.pairing c.loop-pairing.rest.now _
           (omega (arith, c.loop-pairing-test.false, c.len-pairing-end.ensures)) c.loop-pairing.invariant);
     }

@@ -10,6 +10,6 @@ invariant_of-result c = record {
     };
     lists = c.requires.lists;
     few_bids = c.requires.few_bids;
-    each_bid = c.requires.each_bid _;
+    each_bid = c.requires.each_bid _ c.in_ok-rules.ensures.days;
   };
 }

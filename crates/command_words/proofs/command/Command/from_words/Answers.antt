@@ -15,5 +15,5 @@ returns-clause-value c =
 pub returns-clause-spelt : goal.returns-clause-spelt
 returns-clause-spelt c = IfOk-weaker c.command_of.result _ _ (λ read h. read_is_spelt (map string_bytes c.args.words.now) read h) (returns-clause-value c)
 
-pub returns-clause-range : goal.returns-clause-range
-returns-clause-range c = IfOk-weaker c.command_of.result _ _ (λ read h. read_has_limits (map string_bytes c.args.words.now) read h) (returns-clause-value c)
+pub returns-clause-in_range : goal.returns-clause-in_range
+returns-clause-in_range c = IfOk-weaker c.command_of.result _ _ (λ read h. read_has_limits (map string_bytes c.args.words.now) read h) (returns-clause-value c)

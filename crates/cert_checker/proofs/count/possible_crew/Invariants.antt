@@ -1,8 +1,0 @@
-use Rattle.std.proofs.Common.{◌≡◌, false}
-use Rattle.std.specs.Prelude.{not}
-use Rattle.duty_calendar.specs.Minutes.{count_between}
-use Rattle.roster_model.specs.Decided.{is_decided_as}
-use Rattle.cert_checker.proofs.count.possible_crew.Given as goal
-
-abbrev pub invariant-loop-member : goal.invariant-loop-member
-invariant-loop-member l = l.count ≡ count_between (λ m. not (is_decided_as l.node m l.pairing false)) 0 l.member

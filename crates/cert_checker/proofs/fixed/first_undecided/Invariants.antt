@@ -1,6 +1,0 @@
-use Rattle.std.proofs.Common.{◌≡◌, ℕ, ◌<◌, true}
-use Rattle.roster_model.specs.Decided.{is_decided}
-use Rattle.cert_checker.proofs.fixed.first_undecided.Given as goal
-
-abbrev pub invariant-loop-pairing : goal.invariant-loop-pairing
-invariant-loop-pairing l = (p : ℕ) → p < l.pairing → is_decided l.node l.member p ≡ true
