@@ -32,16 +32,28 @@ struct Outcome {
     text: String,
 }
 
+/// Puts a file into a shelf, in place of one of its name.
+fn place(
+    rt: &impl Abort,
+    alloc: Global,
+    shelf: &mut MemoryShelf,
+    name: &str,
+    bytes: &[u8],
+) -> Result<(), Fail> {
+    assert!(rt; !name.is_empty() && name.len() <= 32);
+    shelf.place(alloc, name, bytes)?;
+    Ok(())
+}
+
 /// Puts files into a shelf, each in place of one of its name.
 fn place_all(
     rt: &impl Abort,
     alloc: Global,
     shelf: &mut MemoryShelf,
-    files: &[(&str, &[u8])],
+    files: &[(&str, &str)],
 ) -> Result<(), Fail> {
-    for (name, bytes) in files {
-        assert!(rt; !name.is_empty() && name.len() <= 32);
-        shelf.place(alloc, name, bytes)?;
+    for (name, text) in files {
+        place(rt, alloc, shelf, name, text.as_bytes())?;
     }
     Ok(())
 }
@@ -76,8 +88,8 @@ fn outcome_of(
     rt: &impl Abort,
     alloc: Global,
     words: &[&str],
-    month: &[(&str, &[u8])],
-    changed: &[(&str, &[u8])],
+    month: &[(&str, &str)],
+    changed: &[(&str, &str)],
 ) -> Result<Outcome, Fail> {
     let mut shelf = MemoryShelf::new(alloc, List::new(alloc));
     place_all(rt, alloc, &mut shelf, month)?;
@@ -111,7 +123,7 @@ fn assert_awards(
     let outcome = run_over(alloc, words, &mut shelf, &[])?;
     assert_frames(rt, &outcome, *status, *frame);
     if let Some(reasons) = reasons {
-        assert_eq!(rt; shelf.file("reasons.txt"), Some(*reasons));
+        assert_eq!(rt; shelf.file("reasons.txt"), Some(reasons.as_bytes()));
     }
     let outcome = run_over(alloc, &["check"], &mut shelf, &[])?;
     assert_eq!(rt; outcome.text.as_str(), *checked);
@@ -130,7 +142,7 @@ fn months_are_awarded(rt: HostRuntime) -> Result<(), Fail> {
 fn assert_checks(
     rt: &impl Abort,
     alloc: Global,
-    changed: &[(&str, &[u8])],
+    changed: &[(&str, &str)],
     status: Status,
     text: &str,
 ) -> Result<(), Fail> {
@@ -161,7 +173,7 @@ fn a_month_is_checked(rt: HostRuntime) -> Result<(), Fail> {
 fn assert_cases(
     rt: &impl Abort,
     alloc: Global,
-    month: &[(&str, &[u8])],
+    month: &[(&str, &str)],
     cases: &[Case],
 ) -> Result<(), Fail> {
     for (certificate, text) in cases {
@@ -327,7 +339,7 @@ fn thousand_hours(alloc: Global) -> Result<String, Fail> {
 fn a_year_is_365_days(rt: HostRuntime) -> Result<(), Fail> {
     let alloc = rt.alloc();
     let history = thousand_hours(alloc)?;
-    let changed = [("history.csv", history.as_bytes())];
+    let changed = [("history.csv", history.as_str())];
     assert_checks(&rt, alloc, &changed, Status::Done, "yes\nvector 10\n")?;
     let outcome = outcome_of(
         &rt,
@@ -353,10 +365,7 @@ fn assert_wish(
     let roster = format!(in alloc;
         "member,pairings,credit,score\nM1,{first},{score}\nM2,{second},0\n"
     )?;
-    let changed = [
-        ("bids.txt", bids.as_bytes()),
-        ("roster.csv", roster.as_bytes()),
-    ];
+    let changed = [("bids.txt", bids.as_str()), ("roster.csv", roster.as_str())];
     let outcome = outcome_of(rt, alloc, &["check"], &WISHES, &changed)?;
     assert_ends(rt, &outcome, Status::No, text);
     Ok(())
@@ -384,14 +393,37 @@ fn a_missing_file_is_named(rt: HostRuntime) -> Result<(), Fail> {
     Ok(())
 }
 
+/// Says what `check` prints of the smallest month with these bytes in place of a file.
+fn assert_bytes(
+    rt: &impl Abort,
+    alloc: Global,
+    (name, bytes): (&str, &[u8]),
+    status: Status,
+    text: &str,
+) -> Result<(), Fail> {
+    let mut shelf = MemoryShelf::new(alloc, List::new(alloc));
+    place_all(rt, alloc, &mut shelf, &SMALLEST)?;
+    place(rt, alloc, &mut shelf, name, bytes)?;
+    let outcome = run_over(alloc, &["check"], &mut shelf, &[])?;
+    assert_ends(rt, &outcome, status, text);
+    Ok(())
+}
+
+#[test]
+fn bytes_that_are_no_text_are_named(rt: HostRuntime) -> Result<(), Fail> {
+    for (name, bytes, text) in &NO_TEXTS {
+        assert_bytes(&rt, rt.alloc(), (*name, *bytes), Status::BadInput, text)?;
+    }
+    Ok(())
+}
+
 #[test]
 fn a_long_file_is_named(rt: HostRuntime) -> Result<(), Fail> {
     let bids = vec![in rt.alloc(); b'#'; 67_108_865]?;
-    let changed = [("bids.txt", bids.as_slice())];
-    assert_checks(
+    assert_bytes(
         &rt,
         rt.alloc(),
-        &changed,
+        ("bids.txt", bids.as_slice()),
         Status::TooLong,
         "too long bids.txt\n",
     )
@@ -407,7 +439,7 @@ fn words_are_a_command(rt: HostRuntime) -> Result<(), Fail> {
 }
 
 /// The smallest month with these files in place of its own.
-fn month_with(rt: &impl Abort, alloc: Global, changed: &[(&str, &[u8])]) -> Result<Problem, Fail> {
+fn month_with(rt: &impl Abort, alloc: Global, changed: &[(&str, &str)]) -> Result<Problem, Fail> {
     let mut shelf = MemoryShelf::new(alloc, List::new(alloc));
     place_all(rt, alloc, &mut shelf, &SMALLEST)?;
     place_all(rt, alloc, &mut shelf, changed)?;

@@ -2,7 +2,7 @@
 
 use super::cuts::{CUTS, Cut};
 use super::months::{SENIORITY, SMALLEST};
-use super::{Outcome, assert_ends, due_status, place_all, run_over};
+use super::{Outcome, assert_ends, due_status, place, place_all, run_over};
 use crate::status::Status;
 use duty_calendar::List;
 use shelf::MemoryShelf;
@@ -46,11 +46,10 @@ fn assert_cut(
 ) -> Result<(), Fail> {
     let bytes = whole.file(name).expect(rt, "it is there");
     assert!(rt; size < bytes.len());
-    let cut = [(name, &bytes[..size])];
     let mut old = month_of(rt, alloc, &[])?;
-    place_all(rt, alloc, &mut old, &cut)?;
+    place(rt, alloc, &mut old, name, &bytes[..size])?;
     let mut shelf = month_of(rt, alloc, &[])?;
-    place_all(rt, alloc, &mut shelf, &cut)?;
+    place(rt, alloc, &mut shelf, name, &bytes[..size])?;
     let outcome = run_over(alloc, &["check"], &mut shelf, &[])?;
     assert_ends(rt, &outcome, due_status(text), text);
     assert_files(rt, &shelf, &old, &old, &[]);
@@ -168,7 +167,7 @@ fn stale_month(
 ) -> Result<MemoryShelf, Fail> {
     let mut shelf = month_of(rt, alloc, &[failing])?;
     for name in command.writes {
-        place_all(rt, alloc, &mut shelf, &[(*name, b"old")])?;
+        place(rt, alloc, &mut shelf, name, b"old")?;
     }
     Ok(shelf)
 }
@@ -389,17 +388,14 @@ fn deep_splits_are_judged(rt: HostRuntime) -> Result<(), Fail> {
     place_all(&rt, alloc, &mut shelf, &SMALLEST)?;
     for made in &CROWD {
         let text = text_of(alloc, made)?;
-        place_all(&rt, alloc, &mut shelf, &[(made.0, text.as_bytes())])?;
+        place(&rt, alloc, &mut shelf, made.0, text.as_bytes())?;
     }
     let mut certificate = text_of(alloc, &SPLITS)?;
     for _proof in 1..200_u32 {
         certificate.push_str("proof 0\n")?;
     }
     certificate.push_str("end\n")?;
-    let changed = [
-        ("bids.txt", b"".as_slice()),
-        ("certificate.txt", certificate.as_bytes()),
-    ];
+    let changed = [("bids.txt", ""), ("certificate.txt", certificate.as_str())];
     place_all(&rt, alloc, &mut shelf, &changed)?;
     let outcome = run_over(alloc, &["check"], &mut shelf, &[])?;
     assert_ends(&rt, &outcome, Status::No, "no 5 1\n");

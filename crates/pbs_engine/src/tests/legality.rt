@@ -376,7 +376,7 @@ fn years_are_judged_as_counted(rt: HostRuntime) -> Result<(), Fail> {
     let mut seen = Vec::new(alloc);
     let history = thousand_hours(alloc)?;
     let [rules, pairings, duties, legs, crew, _, fixed, bids] = EIGHT_PAIRINGS;
-    let history = ("history.csv", history.as_bytes());
+    let history = ("history.csv", history.as_str());
     let files = [rules, pairings, duties, legs, crew, history, fixed, bids];
     let problem = month_with(&rt, alloc, &files)?;
     put_codes(&rt, alloc, &problem, 16, &mut seen)?;

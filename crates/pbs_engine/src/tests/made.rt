@@ -9,19 +9,19 @@ use std::process::Abort;
 use std::test::Fail;
 
 /// Two members, of whom one flies on the day that it wants off and the other has leave then.
-const LEAVE: [(&str, &[u8]); 4] = [
+const LEAVE: [(&str, &str); 4] = [
     (
         "crew.csv",
-        b"member,low,high\nM1,0:00,90:00\nM2,0:00,90:00\n",
+        "member,low,high\nM1,0:00,90:00\nM2,0:00,90:00\n",
     ),
     (
         "fixed.csv",
-        b"member,kind,report,parked,release,legs,credit\nM2,leave,2026-06-10T00:00Z,2026-06-11T00:00Z,2026-06-11T00:00Z,,0:00\n",
+        "member,kind,report,parked,release,legs,credit\nM2,leave,2026-06-10T00:00Z,2026-06-11T00:00Z,2026-06-11T00:00Z,,0:00\n",
     ),
-    ("bids.txt", b"member M1\n10 off 2026-06-10\n"),
+    ("bids.txt", "member M1\n10 off 2026-06-10\n"),
     (
         "roster.csv",
-        b"member,pairings,credit,score\nM1,P1,5:00,0\nM2,,0:00,0\n",
+        "member,pairings,credit,score\nM1,P1,5:00,0\nM2,,0:00,0\n",
     ),
 ];
 
@@ -51,7 +51,7 @@ fn months_are_shown(rt: HostRuntime) -> Result<(), Fail> {
     }
     let nobody = run_over(alloc, &["show", "M9"], &mut shelf, &[])?;
     assert_ends(&rt, &nobody, Status::No, "no member M9\n");
-    place_all(&rt, alloc, &mut shelf, &[("roster.csv", b"")])?;
+    place_all(&rt, alloc, &mut shelf, &[("roster.csv", "")])?;
     let unread = run_over(alloc, &["show", "M9"], &mut shelf, &[])?;
     assert_ends(&rt, &unread, Status::No, "no roster 1 1\n");
     Ok(())
