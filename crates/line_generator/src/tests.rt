@@ -8,9 +8,7 @@ ghost use Rattle.roster_model.specs.Goals.{IsNode};
 ghost use Rattle.roster_model.specs.Valid.{IsBid};
 ghost use Rattle.roster_model.specs.Weights.{AreSmallWeights};
 
-use crate::{
-    BestFault, BestInFault, Generator, Over, PricedLine, best, best_over, heaviest, heaviest_over,
-};
+use crate::{BestFault, Over, PricedLine, best, best_over, heaviest, heaviest_over};
 use duty_calendar::{
     Base, Duty, Flown, Horizon, Leg, List, Member, Memory, Name, Pairing, Rules, Station,
 };
@@ -18,7 +16,7 @@ use label_lattice::Steps;
 use line_lens::{
     LensFault, asks_nothing, lens_line, line_graph, narrow_lens, standard_lens, take_graph,
 };
-use roster_model::{Bid, Decision, Goal, Lens, Line, Node, Problem, Window, WindowKind, Wish};
+use roster_model::{Bid, Decision, Goal, Lens, Line, Node, Problem, Wish};
 use std::alloc::Global;
 use std::marker::Brand;
 use std::sync::ledger::{Blank, Ledger};
@@ -537,193 +535,5 @@ fn a_lens_tracks_what_the_goal_asks(rt: HostRuntime) -> Result<(), BestFault> {
     let floors = with(with(List::new(alloc), 10)?, 1)?;
     let (tracked, asks_nothing) = narrowed(alloc, &problem, floors)?;
     assert!(rt; tracked == 1 && !asks_nothing);
-    Ok(())
-}
-
-/// What a generator answers of the last member where the goal has these floors.
-fn best_in_from<L: Ledger>(
-    alloc: Global,
-    generator: &mut Generator,
-    problem: &Problem,
-    floors: List<u32>,
-    lens: &Lens,
-    weights: &[i64],
-    blank: Blank,
-) -> Result<Option<i64>, BestInFault>
-    requires fits { length problem.now.base.pairings ≤ generator.old.pairings }
-    requires some { 0 < length problem.now.base.members }
-    requires floors { length floors ≤ length problem.now.base.members }
-    requires listed { length lens.now.windows < 2 ^ 32 }
-    requires per_pairing { length weights.now ≡ length problem.now.base.pairings }
-    requires small { AreSmallWeights weights.now }
-    requires name { blank.name ≡ L.name }
-    requires parts { blank.parts ≡ L.parts }
-    requires share { 0 < blank.parts }
-    ensures pairings { generator.new.pairings ≡ generator.old.pairings }
-{
-    let member = problem.base.members.len() as u32 - 1;
-    let goal = Goal {
-        floors,
-        grant: None,
-    };
-    let node = Node::new(alloc);
-    let mut steps: Steps<L> = Steps::new(blank);
-    generator.best_in(problem, member, &goal, &node, lens, weights, &mut steps)
-}
-
-fn best_in_of(
-    alloc: Global,
-    generator: &mut Generator,
-    problem: &Problem,
-    floors: List<u32>,
-    lens: &Lens,
-    weights: &[i64],
-) -> Result<Option<i64>, BestInFault>
-    requires fits { length problem.now.base.pairings ≤ generator.old.pairings }
-    requires some { 0 < length problem.now.base.members }
-    requires floors { length floors ≤ length problem.now.base.members }
-    requires listed { length lens.now.windows < 2 ^ 32 }
-    requires per_pairing { length weights.now ≡ length problem.now.base.pairings }
-    requires small { AreSmallWeights weights.now }
-    ensures pairings { generator.new.pairings ≡ generator.old.pairings }
-{
-    best_in_from::<Brand>(
-        alloc,
-        generator,
-        problem,
-        floors,
-        lens,
-        weights,
-        Blank::new(1),
-    )
-}
-
-#[test]
-fn a_generator_answers_in_its_room(rt: HostRuntime) -> Result<(), Memory> {
-    let alloc = rt.alloc();
-    let problem = alone(alloc, tenth(alloc, 61)?, 61, 61)?;
-    let lens = standard_lens(alloc, &problem, 0);
-    let mut generator = Generator::new(alloc, &problem, 4)?;
-    let answer = best_in_of(
-        alloc,
-        &mut generator,
-        &problem,
-        List::new(alloc),
-        &lens,
-        &[5],
-    );
-    assert!(rt; answer == Ok(Some(5)));
-    assert!(rt; generator.line() == [0].as_slice());
-    let answer = best_in_of(
-        alloc,
-        &mut generator,
-        &problem,
-        List::new(alloc),
-        &lens,
-        &[-5],
-    );
-    assert!(rt; answer == Ok(Some(-5)));
-    let mut generator = Generator::new(alloc, &problem, 1)?;
-    let answer = best_in_of(
-        alloc,
-        &mut generator,
-        &problem,
-        List::new(alloc),
-        &lens,
-        &[5],
-    );
-    assert!(rt; answer == Err(BestInFault::Room(1)));
-    assert!(rt; generator.line().is_empty());
-    Ok(())
-}
-
-#[test]
-fn a_generator_looks_at_the_lens_first(rt: HostRuntime) -> Result<(), Memory> {
-    let alloc = rt.alloc();
-    let problem = alone(alloc, tenth(alloc, 61)?, 61, 61)?;
-    let standard = standard_lens(alloc, &problem, 0);
-    let lens = Lens {
-        grain: 7,
-        ..standard
-    };
-    let mut generator = Generator::new(alloc, &problem, 1)?;
-    let answer = best_in_of(
-        alloc,
-        &mut generator,
-        &problem,
-        List::new(alloc),
-        &lens,
-        &[5],
-    );
-    assert!(rt; answer == Err(BestInFault::Lens(LensFault::Grain)));
-    Ok(())
-}
-
-#[test]
-fn a_generator_looks_at_windows(rt: HostRuntime) -> Result<(), Memory> {
-    let alloc = rt.alloc();
-    let problem = alone(alloc, tenth(alloc, 61)?, 61, 61)?;
-    let standard = standard_lens(alloc, &problem, 0);
-    let window = Window {
-        kind: WindowKind::Flight672,
-        start: 525_600,
-    };
-    let lens = Lens {
-        windows: with(List::new(alloc), window)?,
-        ..standard
-    };
-    let mut generator = Generator::new(alloc, &problem, 4)?;
-    let answer = best_in_of(
-        alloc,
-        &mut generator,
-        &problem,
-        List::new(alloc),
-        &lens,
-        &[5],
-    );
-    assert!(rt; answer == Ok(Some(5)));
-    assert!(rt; generator.line() == [0].as_slice());
-    Ok(())
-}
-
-#[test]
-fn a_generator_keeps_its_line_where_none_passes(rt: HostRuntime) -> Result<(), Memory> {
-    let alloc = rt.alloc();
-    let problem = contest(alloc)?;
-    let lens = standard_lens(alloc, &problem, 1);
-    let mut generator = Generator::new(alloc, &problem, 4)?;
-    let floors = with(with(List::new(alloc), 10)?, 10)?;
-    let answer = best_in_of(alloc, &mut generator, &problem, floors, &lens, &[-1]);
-    assert!(rt; answer == Ok(Some(-1)));
-    assert!(rt; generator.line() == [0].as_slice());
-    let floors = with(with(List::new(alloc), 10)?, 11)?;
-    let answer = best_in_of(alloc, &mut generator, &problem, floors, &lens, &[-1]);
-    assert!(rt; answer == Ok(None));
-    assert!(rt; generator.line() == [0].as_slice());
-    Ok(())
-}
-
-#[test]
-fn a_generator_serves_smaller_months(rt: HostRuntime) -> Result<(), Memory> {
-    let alloc = rt.alloc();
-    let large = alone(alloc, pairings(alloc, 600)?, 0, 5400)?;
-    let lens = standard_lens(alloc, &large, 0);
-    let weights = ones(alloc, 600)?;
-    let mut generator = Generator::new(alloc, &large, 100_000)?;
-    let answer = best_in_of(
-        alloc,
-        &mut generator,
-        &large,
-        List::new(alloc),
-        &lens,
-        &weights,
-    );
-    assert!(rt; answer == Ok(Some(18)));
-    assert!(rt; generator.line().len() == 18);
-    let small = alone(alloc, tenth(alloc, 61)?, 61, 61)?;
-    let lens = standard_lens(alloc, &small, 0);
-    let answer = best_in_of(alloc, &mut generator, &small, List::new(alloc), &lens, &[5]);
-    assert!(rt; answer == Ok(Some(5)));
-    assert!(rt; generator.line() == [0].as_slice());
     Ok(())
 }
