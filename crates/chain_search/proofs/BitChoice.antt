@@ -1,119 +1,149 @@
--- The choice of bits.
-use Rattle.std.proofs.Common.{◌≡◌, ◌≢◌, ℕ, zero, suc, min, ◌+◌, ◌<◌, ◌≤◌, ◌==◌, ◌&&◌, ◌++◌, Bool, true, false, List, [], ◌∷◌, cond, refl, sym, ◌∙◌, ap, subst, arith, length, length-append, take, map, append-nil}
-use Rattle.std.specs.Prelude.{All, filter, nat_le, nat_lt, slice_index}
-use Rattle.std.specs.List.{range_with_len}
-use Rattle.std.specs.Int.{bit_at}
-use Rattle.std.proofs.lemmas.Nat.Bits.{bit_at-lt}
+-- The choice of groups of bits.
+use Rattle.std.proofs.Common.{◌≡◌, ℕ, zero, suc, min, ◌+◌, ◌-◌, ◌^◌, ◌<◌, ◌≤◌, ◌==◌, ◌&&◌, ◌++◌, Bool, true, false, List, [], ◌∷◌, refl, sym, ◌∙◌, ap, subst, arith, length, take, drop, get_or, append-nil, inl, inr}
+use Rattle.std.specs.Prelude.{All, bit_and, bit_or, nat_le, sum}
+use Rattle.std.specs.Int.{bit_at, w64}
+use Rattle.std.proofs.lemmas.Bool.{cases_lt}
 use Rattle.std.proofs.lemmas.Bool.Decides.{nat_tests}
-use Rattle.std.proofs.lemmas.List.{take-append-le, take_all, map-append, length-take}
-use Rattle.std.proofs.lemmas.List.Elements.{All-nil, All-push, All-weaker, All-head, All-tail, filter-append}
+use Rattle.std.proofs.lemmas.Nat.{and_le_r}
+use Rattle.std.proofs.lemmas.Nat.Bits.{bit_at-lt, bit_at-zero, bit_at_above, bit_at_and, bit_at_not, bit_at_or, same_from_bits}
+use Rattle.std.proofs.Math.Seq.{drop-cons}
+use Rattle.std.proofs.lemmas.List.{append_assoc, drop_all, length-append}
+use Rattle.std.proofs.lemmas.List.Elements.{All-nil, All-cons}
+use Rattle.label_lattice.specs.Mask.{unset_weight}
 use Rattle.chain_search.specs.declared.chosen.Chosen.{Chosen}
-use Rattle.chain_search.specs.BitStates.{are_known, chosen_of}
-use Rattle.chain_search.specs.BitLaws.{known_parts}
+use Rattle.chain_search.specs.BitStates.{are_known, chosen_from, chosen_of, set_weight}
 
-abbrev pub weighed : List ℕ → ℕ → Chosen
-weighed weights place = record { place = place; weight = slice_index weights place }
+-- a group without the bits that are used
+abbrev pub group_of : ℕ → ℕ → List ℕ → Chosen
+group_of used mask weights = record { bits = bit_and mask (2 ^ 64 - 1 - used); weight = set_weight (bit_and mask (2 ^ 64 - 1 - used)) weights }
 
--- those of the first places
-abbrev pub bits_before : ℕ → ℕ → List ℕ
-bits_before choice count = filter (λ place. bit_at choice place == 1) (range_with_len 0 count)
-
-pub record IsChosen (choice count : ℕ) (weights : List ℕ) (chosen : List Chosen) : Type 0 where
+-- what was chosen, and what is still to come
+pub record IsChosen (used : ℕ) (groups rest weights : List ℕ) (chosen : List Chosen) : Type 0 where
   pub few : length chosen ≤ 14
-  pub before : All (λ bit. bit.place < count) chosen
-  pub known : are_known 0 chosen weights ≡ true
-  pub is : chosen ≡ take 14 (map (weighed weights) (bits_before choice count))
+  pub is : chosen ++ take (14 - length chosen) (chosen_from used rest weights) ≡ chosen_of groups weights
 
-range_more : (start count : ℕ) → range_with_len start (suc count) ≡ range_with_len start count ++ (start + count) ∷ []
-range_more start zero = ap (λ (n : ℕ). n ∷ []) (omega arith)
-range_more start (suc count) =
-    let e : start + 1 + count ≡ start + suc count = omega arith in
-    ap (λ (xs : List ℕ). start ∷ xs) (range_more (start + 1) count ∙ ap (λ n. range_with_len (start + 1) count ++ n ∷ []) e)
+pub chosen_start : (groups weights : List ℕ) → IsChosen 0 groups groups weights []
+unfolding chosen_of
+chosen_start groups weights = record { few = omega arith; is = refl }
 
-bits_more : (choice count : ℕ) → bits_before choice (count + 1) ≡ bits_before choice count ++ cond (bit_at choice count == 1) (count ∷ []) []
-bits_more choice count =
-    let one : count + 1 ≡ suc count = omega arith in
-    let zero_is : 0 + count ≡ count = omega arith in
-    ap (λ n. bits_before choice n) one
-    ∙ (ap (filter (λ place. bit_at choice place == 1)) (range_more 0 count ∙ ap (λ n. range_with_len 0 count ++ n ∷ []) zero_is)
-    ∙ filter-append (λ place. bit_at choice place == 1) (range_with_len 0 count) (count ∷ []))
+-- there are enough
+pub chosen_full : (used : ℕ) (groups rest other weights : List ℕ) (chosen : List Chosen) → 14 ≤ length chosen → IsChosen used groups rest weights chosen → IsChosen used groups other weights chosen
+chosen_full used groups rest other weights chosen full so_far = record {
+  few = so_far.few;
+  is = none (chosen_from used other weights) ∙ (sym (none (chosen_from used rest weights)) ∙ so_far.is);
+} where
+  none : (bits : List Chosen) → chosen ++ take (14 - length chosen) bits ≡ chosen
+  none bits = let no : 14 - length chosen ≡ 0 = omega (arith, full) in ap (λ (n : ℕ). chosen ++ take n bits) no ∙ append-nil chosen
 
-le_test : (a b : ℕ) → a ≤ b → nat_le a b ≡ true
-le_test a b h = grind (arith, nat_tests)
+-- and one more
+chosen_push : (used mask : ℕ) (bit : Chosen) (groups rest weights : List ℕ) (chosen new : List Chosen) → length chosen < 14 → bit ≡ group_of used mask weights → new ≡ chosen ++ bit ∷ []
+    → IsChosen used groups (mask ∷ rest) weights chosen → IsChosen (bit_or used mask) groups rest weights new
+chosen_push used mask bit groups rest weights chosen new room bit_is pushed so_far =
+    let long : length new ≡ length chosen + 1 = ap length pushed ∙ length-append chosen (bit ∷ []) in
+    let left : 14 - length chosen ≡ suc (14 - length new) = omega (arith, long, room) in
+    record {
+      few = omega (arith, long, room);
+      is =
+          ap (λ (bits : List Chosen). bits ++ take (14 - length new) (chosen_from (bit_or used mask) rest weights)) pushed
+          ∙ (append_assoc chosen (bit ∷ []) (take (14 - length new) (chosen_from (bit_or used mask) rest weights))
+          ∙ (ap (λ (b : Chosen). chosen ++ b ∷ take (14 - length new) (chosen_from (bit_or used mask) rest weights)) bit_is
+          ∙ (ap (λ (n : ℕ). chosen ++ take n (chosen_from used (mask ∷ rest) weights)) (sym left)
+          ∙ so_far.is)));
+    }
 
-lt_test : (a b : ℕ) → a < b → nat_lt a b ≡ true
-lt_test a b h = grind (arith, nat_tests)
+pub chosen_more : (used index : ℕ) (bit : Chosen) (groups weights : List ℕ) (chosen new : List Chosen) → index < length groups → length chosen < 14 → bit ≡ group_of used (get_or groups index 0) weights → new ≡ chosen ++ bit ∷ []
+    → IsChosen used groups (drop index groups) weights chosen → IsChosen (bit_or used (get_or groups index 0)) groups (drop (index + 1) groups) weights new
+chosen_more used index bit groups weights chosen new inside room bit_is pushed so_far =
+    let next : suc index ≡ index + 1 = omega arith in
+    let parts : drop index groups ≡ get_or groups index 0 ∷ drop (index + 1) groups = drop-cons groups index 0 inside ∙ ap (λ n. get_or groups index 0 ∷ drop n groups) next in
+    chosen_push used (get_or groups index 0) bit groups (drop (index + 1) groups) weights chosen new room bit_is pushed
+    (subst (λ (xs : List ℕ). IsChosen used groups xs weights chosen) parts so_far)
+
+pub chosen_all : (used index : ℕ) (groups weights : List ℕ) (chosen : List Chosen) → length groups ≤ index → IsChosen used groups (drop index groups) weights chosen → chosen ≡ chosen_of groups weights
+chosen_all used index groups weights chosen all so_far =
+    sym (append-nil chosen) ∙ (sym (ap (λ (bits : List Chosen). chosen ++ bits) (no_more (14 - length chosen)))
+    ∙ (sym (ap (λ (xs : List ℕ). chosen ++ take (14 - length chosen) (chosen_from used xs weights)) (drop_all index groups all)) ∙ so_far.is))
+  where
+    no_more : (n : ℕ) → take n (chosen_from used [] weights) ≡ []
+    no_more zero = refl
+    no_more (suc n) = refl
+
+-- the weight that is counted
+pub group_is : (bits used mask weight : ℕ) (weights : List ℕ) → bits ≡ bit_and mask (2 ^ 64 - 1 - used) → unset_weight bits weights (length weights) + weight ≡ sum weights
+    → ◌≡◌ {A = Chosen} (record { bits = bits; weight = weight }) (group_of used mask weights)
+group_is bits used mask weight weights bits_is all =
+    let light : weight ≡ set_weight bits weights = omega (arith, all) in
+    ap (λ (n : ℕ). record { bits = bits; weight = n }) light ∙ ap (λ (n : ℕ). record { bits = n; weight = set_weight n weights }) bits_is
+
+same_is : (a b : ℕ) → a ≡ b → (a == b) ≡ true
+same_is a b h = grind (arith, nat_tests)
+
+le_self : (a : ℕ) → nat_le a a ≡ true
+le_self a = grind (arith, nat_tests)
 
 both : (a b : Bool) → a ≡ true → b ≡ true → (a && b) ≡ true
 both true b p q = q
 both false b p q = p
 
-known_cons : (least : ℕ) (bit : Chosen) (chosen : List Chosen) (weights : List ℕ) → least ≤ bit.place → bit.place < length weights → bit.weight ≤ slice_index weights bit.place → are_known (bit.place + 1) chosen weights ≡ true → are_known least (bit ∷ chosen) weights ≡ true
-known_cons least bit chosen weights later inside light rest =
-    both (nat_le least bit.place && nat_lt bit.place (length weights) && nat_le bit.weight (slice_index weights bit.place)) (are_known (bit.place + 1) chosen weights)
-    (both (nat_le least bit.place && nat_lt bit.place (length weights)) (nat_le bit.weight (slice_index weights bit.place)) (both (nat_le least bit.place) (nat_lt bit.place (length weights)) (le_test least bit.place later) (lt_test bit.place (length weights) inside)) (le_test bit.weight (slice_index weights bit.place) light))
-    rest
+-- what is not used has no bit that is used
+unused_bit : (mask used i : ℕ) → min (bit_at (bit_and mask (2 ^ 64 - 1 - used)) i) (bit_at used i) ≡ 0
+unused_bit mask used i =
+    let whole = bit_at_and mask (2 ^ 64 - 1 - used) i in
+    let low = bit_at-lt used i in
+    let zero_is = bit_at-zero i in
+    elim (cases_lt used (2 ^ 64)) [
+      | inr over ↦ (
+          let none : 2 ^ 64 - 1 - used ≡ 0 = omega (arith, over) in
+          let left : bit_at (2 ^ 64 - 1 - used) i ≡ 0 = ap (λ n. bit_at n i) none ∙ bit_at-zero i in
+          omega (arith, whole, left))
+      | inl small ↦ elim (cases_lt i 64) [
+        | inl less ↦ (let turned = bit_at_not w64 used i small less in omega (arith, whole, low, turned))
+        | inr above ↦ (let none = bit_at_above used 64 i small above in omega (arith, none))
+      ]
+    ]
 
-known_push : (chosen : List Chosen) (least place : ℕ) (weights : List ℕ) → All (λ bit. bit.place < place) chosen → least ≤ place → place < length weights → are_known least chosen weights ≡ true → are_known least (chosen ++ weighed weights place ∷ []) weights ≡ true
-known_push [] least place weights before later inside known = known_cons least (weighed weights place) [] weights later inside (omega arith) refl
-known_push (bit ∷ chosen) least place weights before later inside known =
-    let parts = known_parts least bit chosen weights known in
-    let here = All-head (λ (b : Chosen). b.place < place) bit chosen before in
-    known_cons least bit (chosen ++ weighed weights place ∷ []) weights parts.later parts.inside parts.light
-    (known_push chosen (bit.place + 1) place weights (All-tail (λ (b : Chosen). b.place < place) bit chosen before) (omega (arith, here)) inside parts.rest)
+-- what is chosen shares no bit with what is known to be used
+from_known : (n used known : ℕ) (groups weights : List ℕ) → ((i : ℕ) → bit_at known i ≤ bit_at used i) → are_known known (take n (chosen_from used groups weights)) weights ≡ true
+from_known zero used known groups weights inside = refl
+from_known (suc n) used known [] weights inside = refl
+from_known (suc n) used known (mask ∷ groups) weights inside =
+    let bits = bit_and mask (2 ^ 64 - 1 - used) in
+    let apart : bit_and bits known ≡ 0 = same_from_bits _ _ (λ i.
+    let whole = bit_at_and bits known i in
+    let none = unused_bit mask used i in
+    let less = inside i in
+    let zero_is = bit_at-zero i in
+    omega (arith, whole, none, less, zero_is)) in
+    both ((bit_and bits known == 0) && nat_le (set_weight bits weights) (set_weight bits weights)) (are_known (bit_or known bits) (take n (chosen_from (bit_or used mask) groups weights)) weights)
+    (both (bit_and bits known == 0) (nat_le (set_weight bits weights) (set_weight bits weights)) (same_is (bit_and bits known) 0 apart) (le_self (set_weight bits weights)))
+    (from_known n (bit_or used mask) (bit_or known bits) groups weights (λ i.
+    let more = bit_at_or known bits i in
+    let all = bit_at_or used mask i in
+    let part = bit_at_and mask (2 ^ 64 - 1 - used) i in
+    let less = inside i in
+    omega (arith, more, all, part, less)))
 
-module _ (choice : ℕ) (weights : List ℕ) where
-  pub chosen_start : IsChosen choice 0 weights []
-  chosen_start = record { few = omega arith; before = All-nil (λ (bit : Chosen). bit.place < 0); known = refl; is = refl }
+pub chosen_known : (groups weights : List ℕ) → are_known 0 (chosen_of groups weights) weights ≡ true
+unfolding chosen_of
+chosen_known groups weights = from_known 14 0 0 groups weights (λ i. omega arith)
 
-  weighed_more : (count : ℕ) → map (weighed weights) (bits_before choice (count + 1)) ≡ map (weighed weights) (bits_before choice count) ++ map (weighed weights) (cond (bit_at choice count == 1) (count ∷ []) [])
-  weighed_more count = ap (map (weighed weights)) (bits_more choice count) ∙ map-append (weighed weights) (bits_before choice count) (cond (bit_at choice count == 1) (count ∷ []) [])
+from_inside : (n used : ℕ) (groups weights : List ℕ) → All (λ bit. bit.bits < 2 ^ 64) (take n (chosen_from used groups weights))
+from_inside zero used groups weights = All-nil (λ (bit : Chosen). bit.bits < 2 ^ 64)
+from_inside (suc n) used [] weights = All-nil (λ (bit : Chosen). bit.bits < 2 ^ 64)
+from_inside (suc n) used (mask ∷ groups) weights =
+    let less = and_le_r mask (2 ^ 64 - 1 - used) in
+    All-cons (λ (bit : Chosen). bit.bits < 2 ^ 64) (group_of used mask weights) (take n (chosen_from (bit_or used mask) groups weights)) (omega (arith, less)) (from_inside n (bit_or used mask) groups weights)
 
-  not_one : (bit : ℕ) → bit ≡ 0 → (bit == 1) ≡ false
-  not_one bit e = grind (arith, nat_tests)
+pub chosen_inside : (groups weights : List ℕ) → All (λ bit. bit.bits < 2 ^ 64) (chosen_of groups weights)
+unfolding chosen_of
+chosen_inside groups weights = from_inside 14 0 groups weights
 
-  is_one : (bit : ℕ) → bit < 2 → bit ≢ 0 → (bit == 1) ≡ true
-  is_one bit p q = grind (arith, nat_tests)
+from_light : (n used : ℕ) (groups weights : List ℕ) → sum weights < 2 ^ 39 → All (λ bit. bit.weight < 2 ^ 39) (take n (chosen_from used groups weights))
+from_light zero used groups weights small = All-nil (λ (bit : Chosen). bit.weight < 2 ^ 39)
+from_light (suc n) used [] weights small = All-nil (λ (bit : Chosen). bit.weight < 2 ^ 39)
+from_light (suc n) used (mask ∷ groups) weights small =
+    All-cons (λ (bit : Chosen). bit.weight < 2 ^ 39) (group_of used mask weights) (take n (chosen_from (bit_or used mask) groups weights)) (omega (arith, small)) (from_light n (bit_or used mask) groups weights small)
 
-  -- the bit is not set
-  pub chosen_skip : (count : ℕ) (chosen : List Chosen) → bit_at choice count ≡ 0 → IsChosen choice count weights chosen → IsChosen choice (count + 1) weights chosen
-  chosen_skip count chosen none so_far = record {
-    few = so_far.few;
-    before = All-weaker (λ (bit : Chosen). bit.place < count) (λ bit. bit.place < count + 1) (λ bit less. omega (arith, less)) chosen so_far.before;
-    known = so_far.known;
-    is = so_far.is ∙ sym (ap (take 14) (weighed_more count ∙ (ap (λ (b : Bool). map (weighed weights) (bits_before choice count) ++ map (weighed weights) (cond b (count ∷ []) [])) (not_one (bit_at choice count) none) ∙ append-nil (map (weighed weights) (bits_before choice count)))));
-  }
-
-  set_more : (count : ℕ) → bit_at choice count ≢ 0 → map (weighed weights) (bits_before choice (count + 1)) ≡ map (weighed weights) (bits_before choice count) ++ weighed weights count ∷ []
-  set_more count some = weighed_more count ∙ ap (λ (b : Bool). map (weighed weights) (bits_before choice count) ++ map (weighed weights) (cond b (count ∷ []) [])) (is_one (bit_at choice count) (bit_at-lt choice count) some)
-
-  -- there are enough
-  pub chosen_full : (count : ℕ) (chosen : List Chosen) → bit_at choice count ≢ 0 → 14 ≤ length chosen → IsChosen choice count weights chosen → IsChosen choice (count + 1) weights chosen
-  chosen_full count chosen some full so_far =
-      let many : length chosen ≡ min 14 (length (map (weighed weights) (bits_before choice count))) = ap length so_far.is ∙ length-take 14 (map (weighed weights) (bits_before choice count)) in
-      record {
-        few = so_far.few;
-        before = All-weaker (λ (bit : Chosen). bit.place < count) (λ bit. bit.place < count + 1) (λ bit less. omega (arith, less)) chosen so_far.before;
-        known = so_far.known;
-        is = so_far.is ∙ sym (ap (take 14) (set_more count some) ∙ take-append-le 14 (map (weighed weights) (bits_before choice count)) (weighed weights count ∷ []) (omega (arith, many, full)));
-      }
-
-  -- and one more
-  pub chosen_push : (count : ℕ) (chosen new : List Chosen) → bit_at choice count ≢ 0 → length chosen < 14 → count < length weights → new ≡ chosen ++ weighed weights count ∷ [] → IsChosen choice count weights chosen → IsChosen choice (count + 1) weights new
-  chosen_push count chosen new some room inside pushed so_far =
-      let whole = map (weighed weights) (bits_before choice count) in
-      let many : length chosen ≡ min 14 (length whole) = ap length so_far.is ∙ length-take 14 whole in
-      let short : length whole ≤ 13 = omega (arith, many, room) in
-      let all : chosen ≡ whole = so_far.is ∙ take_all 14 whole (omega (arith, short)) in
-      let long : length new ≡ length chosen + 1 = ap length pushed ∙ length-append chosen (weighed weights count ∷ []) in
-      let more : length (whole ++ weighed weights count ∷ []) ≡ length whole + 1 = length-append whole (weighed weights count ∷ []) in
-      record {
-        few = omega (arith, long, room);
-        before = subst (All (λ (bit : Chosen). bit.place < count + 1)) (sym pushed) (All-push (λ (bit : Chosen). bit.place < count + 1) chosen (weighed weights count) (All-weaker (λ (bit : Chosen). bit.place < count) (λ bit. bit.place < count + 1) (λ bit less. omega (arith, less)) chosen so_far.before) (omega arith));
-        known = subst (λ (bits : List Chosen). are_known 0 bits weights ≡ true) (sym pushed) (known_push chosen 0 count weights so_far.before (omega arith) inside so_far.known);
-        is = pushed ∙ (ap (λ (bits : List Chosen). bits ++ weighed weights count ∷ []) all ∙ (sym (take_all 14 (whole ++ weighed weights count ∷ []) (omega (arith, more, short))) ∙ ap (take 14) (sym (set_more count some))));
-      }
-
-  pub chosen_all : (count : ℕ) (chosen : List Chosen) → count ≡ 64 → IsChosen choice count weights chosen → chosen ≡ chosen_of choice weights
-  unfolding chosen_of
-  chosen_all count chosen all so_far = so_far.is ∙ ap (λ n. take 14 (map (weighed weights) (bits_before choice n))) all
+pub chosen_light : (groups weights : List ℕ) → sum weights < 2 ^ 39 → All (λ bit. bit.weight < 2 ^ 39) (chosen_of groups weights)
+unfolding chosen_of
+chosen_light groups weights small = from_light 14 0 groups weights small

@@ -11,7 +11,6 @@ use Rattle.std.proofs.Math.Seq.{get_or-append_seam}
 use Rattle.std.proofs.lemmas.List.Folds.{Any-from_list_any}
 use Rattle.std.proofs.lemmas.List.Kept.{AllPairs-cons}
 use Rattle.std.proofs.lemmas.List.Elements.{All-nil, All-append, All-contains, All-push, All-weaker}
-use Rattle.label_lattice.specs.Laws.{ResourceLaws}
 use Rattle.label_setter.specs.declared.graph.Arc.{Arc}
 use Rattle.label_setter.specs.Graphs.{FitsPlaces, IsGraph}
 use Rattle.label_setter.specs.Chains.{GraphOf, IsFeasible, Leads, Reached, Takes, source}
@@ -21,6 +20,7 @@ use Rattle.chain_search.specs.declared.turns.Label.{Label}
 use Rattle.chain_search.specs.declared.turns.Open.{Open}
 use Rattle.chain_search.specs.Leavings.{Leaving}
 use Rattle.chain_search.specs.Marking.{KeepsMark, Stands, dispenses}
+use Rattle.chain_search.specs.Orders.{IsOrder}
 use Rattle.chain_search.specs.Searches.{ComesFrom, Enters, Hunts, IsNext, IsOnPath, IsWithin, NoneAboveFrom, Owes, Puts, Spreads, reached_label, reached_mark, reached_open}
 use Rattle.chain_search.proofs.ListReads.{below_or_at, contains_read, same_some}
 use Rattle.chain_search.proofs.Walking.{NoneByFirst, fits_at, le_through, leads_push, none_at_sink, none_by_all, none_dispensed, none_in_rest, same_next}
@@ -286,17 +286,17 @@ module _ {R S E : Type 0} (extend : R → S → Option R) (done : R → E → Bo
   on_path_of path marks waiting next hunts = all_last (IsOnPath extend graph path) waiting next hunts.on_path
 
   -- a mark dispenses with the label
-  pub hunt_dispensed : (below : R → R → Bool) → ResourceLaws below extend done → (path : List ℕ) (marks : List (List (Mark R))) (waiting : List (Open R)) (next : Open R) (row : List (Mark R)) → slice_get marks next.place ≡ Some row → list_any (λ mark. dispenses below mark next.gain next.resource) row ≡ true
+  pub hunt_dispensed : (spares : ℕ → R → R → Bool) → IsOrder extend done graph spares → (path : List ℕ) (marks : List (List (Mark R))) (waiting : List (Open R)) (next : Open R) (row : List (Mark R)) → slice_get marks next.place ≡ Some row → list_any (λ mark. dispenses (spares next.place) mark next.gain next.resource) row ≡ true
       → Hunts extend done graph over path marks (waiting ++ next ∷ []) → Hunts extend done graph over path marks waiting
-  hunt_dispensed below laws path marks waiting next row is any hunts =
-      hunt_drop path marks waiting next (by_mark (Any-from_list_any (λ mark. dispenses below mark next.gain next.resource) row any)) hunts
+  hunt_dispensed spares order path marks waiting next row is any hunts =
+      hunt_drop path marks waiting next (by_mark (Any-from_list_any (λ mark. dispenses (spares next.place) mark next.gain next.resource) row any)) hunts
     where
-      by_mark : Any (λ mark. dispenses below mark next.gain next.resource ≡ true) row → Owes extend done graph over waiting (next.place + 1) (reached_open next)
+      by_mark : Any (λ mark. dispenses (spares next.place) mark next.gain next.resource ≡ true) row → Owes extend done graph over waiting (next.place + 1) (reached_open next)
       by_mark found = record {
         none = λ most up all.
             let marked = hunts.marked next.place found.1 (record { row = row; is = is; listed = (found.0, found.2, found.3) }) in
             let earlier = owes_less waiting next (next.place + 1) (reached_mark next.place found.1) (omega arith) marked in
-            none_dispensed extend done graph most below laws next.place found.1 next.gain next.resource found.4 (earlier.none most up all);
+            none_dispensed extend done graph most spares order next.place found.1 next.gain next.resource found.4 (earlier.none most up all);
       }
 
   -- the label went on by each arc

@@ -1,17 +1,12 @@
 -- What the bits of a set weigh, bit by bit.
 use Rattle.std.proofs.Common.{◌≡◌, ◌≢◌, ℕ, zero, suc, ◌+◌, ◌-◌, ◌*◌, ◌%◌, ◌^◌, ◌<◌, ◌≤◌, List, refl, sym, ◌∙◌, ap, subst, arith, length, sum, w64}
-use Rattle.std.specs.Prelude.{◌==◌, bit_xor, nat_le, slice_index, if◌then◌else◌}
+use Rattle.std.specs.Prelude.{bit_xor, nat_le, slice_index}
 use Rattle.std.specs.Int.{bit_at, trailing_zeros}
 use Rattle.std.proofs.lemmas.Bool.Decides.{nat_tests}
 use Rattle.std.proofs.lemmas.Nat.{one_shl}
 use Rattle.std.proofs.lemmas.Nat.Bits.{bit_at-lt, bit_at-pow_other, bit_at-pow_same, bit_at-trailing_zeros, bit_at-zero, bit_at_xor}
 use Rattle.label_lattice.specs.Mask.{unset_weight}
-use Rattle.chain_search.specs.BitLaws.{total, total_is}
-
--- the numbers of the first places whose bits are set
-pub set_sum : ℕ → (ℕ → ℕ) → ℕ → ℕ
-set_sum bits number zero = 0
-set_sum bits number (suc k) = set_sum bits number k + bit_at bits k * number k
+use Rattle.chain_search.specs.BitLaws.{set_is, set_sum}
 
 -- a bit that was set is turned
 turned_other : (bits place i : ℕ) → i ≢ place → bit_at (bit_xor bits (2 ^ place)) i ≡ bit_at bits i
@@ -58,22 +53,8 @@ set_none number (suc k) =
     let before = set_none number k in
     subst (λ b. set_sum 0 number k + b * number k ≡ 0) (sym (bit_at-zero k)) (omega (arith, before))
 
--- one bit is set or not
-one_bit : (bit weight : ℕ) → bit < 2 → (if bit == 0 then weight else 0) + bit * weight ≡ weight
-one_bit zero weight small = omega arith
-one_bit (suc zero) weight small = omega arith
-one_bit (suc (suc n)) weight small = absurd (omega (arith, small))
-
-set_and_unset : (bits : ℕ) (weights : List ℕ) (k : ℕ) → unset_weight bits weights k + set_sum bits (slice_index weights) k ≡ total weights k
-unfolding set_sum total
-set_and_unset bits weights zero = refl
-set_and_unset bits weights (suc k) =
-    let before = set_and_unset bits weights k in
-    let here = one_bit (bit_at bits k) (slice_index weights k) (bit_at-lt bits k) in
-    omega (arith, before, here)
-
 pub set_of_all : (bits : ℕ) (weights : List ℕ) (count : ℕ) → length weights ≡ count → unset_weight bits weights (length weights) + set_sum bits (slice_index weights) count ≡ sum weights
-set_of_all bits weights count long = subst (λ n. unset_weight bits weights (length weights) + set_sum bits (slice_index weights) n ≡ sum weights) long (set_and_unset bits weights (length weights) ∙ total_is weights)
+set_of_all bits weights count long = subst (λ n. unset_weight bits weights (length weights) + set_sum bits (slice_index weights) n ≡ sum weights) long (set_is bits weights)
 
 -- the lowest bit is set
 pub lowest_set : (bits : ℕ) → 0 < bits → bits < 2 ^ 64 → bit_at bits (trailing_zeros w64 bits) ≡ 1

@@ -4,7 +4,6 @@ use Rattle.std.specs.Prelude.{All, int_le, slice_get}
 use Rattle.std.proofs.lemmas.Bool.{and_parts}
 use Rattle.std.proofs.lemmas.Int.{ints}
 use Rattle.std.proofs.lemmas.List.Elements.{All-contains}
-use Rattle.label_lattice.specs.Laws.{ResourceLaws}
 use Rattle.label_setter.specs.declared.graph.Arc.{Arc}
 use Rattle.label_setter.specs.Graphs.{FitsPlaces, IsGraph}
 use Rattle.label_setter.specs.Chains.{GraphOf, IsFeasible, Leads, Reached, Takes, source}
@@ -12,6 +11,7 @@ use Rattle.chain_search.specs.declared.marks.Mark.{Mark}
 use Rattle.chain_search.specs.Bounds.{IsBound}
 use Rattle.chain_search.specs.Leavings.{Leaving}
 use Rattle.chain_search.specs.Marking.{dispenses}
+use Rattle.chain_search.specs.Orders.{IsOrder}
 use Rattle.chain_search.specs.Searches.{NoneAboveFrom, reached_mark}
 use Rattle.chain_search.proofs.ListReads.{contains_read, read_contains, same_some}
 
@@ -79,51 +79,54 @@ module _ {R S E : Type 0} (extend : R → S → Option R) (done : R → E → Bo
   none_in_rest rest bound label most chain gain last leads is_done = le_through gain (label.gain +ℤ rest label.place label.resource) over (bound label chain gain last leads is_done) most
 
   -- a mark that dispenses with a label
-  module _ (below : R → R → Bool) (laws : ResourceLaws below extend done) where
-    -- the same chain from a label that is as good
+  module _ (spares : ℕ → R → R → Bool) (order : IsOrder extend done graph spares) where
+    -- the same chain from a label that spares this one
     record Lifted (by b : Reached R) (chain : List ℕ) : Type 0 where
       to : Reached R
       leads : Leads extend graph.arcs by chain to
       place : to.place ≡ b.place
       gain : b.gain ≤ℤ to.gain
-      is_below : below to.resource b.resource ≡ true
+      spared : spares to.place to.resource b.resource ≡ true
 
-    lift : (by a b : Reached R) (chain : List ℕ) → by.place ≡ a.place → a.gain ≤ℤ by.gain → below by.resource a.resource ≡ true → Leads extend graph.arcs a chain b → Lifted by b chain
-    lift by a b [] place gain is_below leads = record {
+    lift : (by a b : Reached R) (chain : List ℕ) → by.place ≡ a.place → a.gain ≤ℤ by.gain → spares a.place by.resource a.resource ≡ true → Leads extend graph.arcs a chain b → Lifted by b chain
+    lift by a b [] place gain spared leads = record {
       to = by;
       leads = refl;
       place = place ∙ ap (λ (r : Reached R). r.place) leads;
       gain = subst (λ g. g ≤ℤ by.gain) (ap (λ (r : Reached R). r.gain) leads) gain;
-      is_below = ap (λ (r : Reached R). below by.resource r.resource) (sym leads) ∙ is_below;
+      spared = subst (λ (r : Reached R). spares by.place by.resource r.resource ≡ true) leads (subst (λ (p : ℕ). spares p by.resource a.resource ≡ true) (sym place) spared);
     }
-    lift by a b (number ∷ chain) place gain is_below leads =
+    lift by a b (number ∷ chain) place gain spared leads =
         let takes = leads.1 in
         let mid = leads.0 in
-        let next = laws.extends by.resource a.resource mid.resource takes.arc.step is_below takes.extends in
+        let at_from : spares takes.arc.from by.resource a.resource ≡ true = subst (λ (p : ℕ). spares p by.resource a.resource ≡ true) (sym takes.from) spared in
+        let next = order.along number takes.arc by.resource a.resource mid.resource takes.is at_from takes.extends in
         let to : Reached R = record { place = mid.place; gain = by.gain +ℤ takes.arc.gain; resource = next.to } in
-        let more = lift to mid b chain refl (gain_through a.gain by.gain takes.arc.gain mid.gain to.gain gain takes.gain refl) next.is_below leads.2 in
+        let there : spares mid.place next.to mid.resource ≡ true = subst (λ (p : ℕ). spares p next.to mid.resource ≡ true) takes.to next.is_below in
+        let more = lift to mid b chain refl (gain_through a.gain by.gain takes.arc.gain mid.gain to.gain gain takes.gain refl) there leads.2 in
         record {
           to = more.to;
           leads = (to, record { arc = takes.arc; is = takes.is; from = takes.from ∙ sym place; to = takes.to; gain = refl; extends = next.extends }, more.leads);
           place = more.place;
           gain = more.gain;
-          is_below = more.is_below;
+          spared = more.spared;
         }
 
     at_sink : (label end : Reached R) (chain : List ℕ) → end.place ≡ graph.places - 1 → Leads extend graph.arcs label chain end → Leads extend graph.arcs label chain (record { place = graph.places - 1; gain = end.gain; resource = end.resource })
     at_sink label end chain place leads = subst (λ (p : ℕ). Leads extend graph.arcs label chain (record { place = p; gain = end.gain; resource = end.resource })) place leads
 
-    none_by : (by label : Reached R) → by.place ≡ label.place → label.gain ≤ℤ by.gain → below by.resource label.resource ≡ true → NoneAboveFrom extend done graph over by → NoneAboveFrom extend done graph over label
+    none_by : (by label : Reached R) → by.place ≡ label.place → label.gain ≤ℤ by.gain → spares label.place by.resource label.resource ≡ true → NoneAboveFrom extend done graph over by → NoneAboveFrom extend done graph over label
     unfolding NoneAboveFrom
-    none_by by label place gain is_below none chain best last leads is_done =
+    none_by by label place gain spared none chain best last leads is_done =
         let end : Reached R = record { place = graph.places - 1; gain = best; resource = last } in
-        let lifted = lift by label end chain place gain is_below leads in
+        let lifted = lift by label end chain place gain spared leads in
+        let at_end : spares (graph.places - 1) lifted.to.resource last ≡ true = subst (λ (p : ℕ). spares p lifted.to.resource last ≡ true) lifted.place lifted.spared in
         le_through best lifted.to.gain over lifted.gain
-        (none chain lifted.to.gain lifted.to.resource (at_sink by lifted.to chain lifted.place lifted.leads) (laws.finishes lifted.to.resource last graph.end lifted.is_below is_done))
+        (none chain lifted.to.gain lifted.to.resource (at_sink by lifted.to chain lifted.place lifted.leads) (order.final lifted.to.resource last at_end is_done))
 
-    pub none_dispensed : (place : ℕ) (mark : Mark R) (gain : ℤ) (resource : R) → dispenses below mark gain resource ≡ true → NoneAboveFrom extend done graph over (reached_mark place mark) → NoneAboveFrom extend done graph over (record { place = place; gain = gain; resource = resource })
+    pub none_dispensed : (place : ℕ) (mark : Mark R) (gain : ℤ) (resource : R) → dispenses (spares place) mark gain resource ≡ true → NoneAboveFrom extend done graph over (reached_mark place mark) → NoneAboveFrom extend done graph over (record { place = place; gain = gain; resource = resource })
     none_dispensed place mark gain resource is none =
-        let parts = and_parts (int_le gain mark.gain) (below mark.resource resource) is in
+        let parts = and_parts (int_le gain mark.gain) (spares place mark.resource resource) is in
         none_by (reached_mark place mark) (record { place = place; gain = gain; resource = resource }) refl (le_means gain mark.gain parts.0) parts.1 none
 
   pub none_feasible : NoneAboveFrom extend done graph over (source graph.start) → (chain : List ℕ) (gain : ℤ) → IsFeasible extend done graph chain gain → gain ≤ℤ over

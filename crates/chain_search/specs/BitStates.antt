@@ -1,33 +1,59 @@
--- Chosen bits of a set as a state, and what they weigh.
-use Rattle.std.specs.Prelude.{◌+◌, ◌-◌, ◌*◌, ◌/◌, ◌%◌, ◌^◌, ◌==◌, ◌&&◌, ℕ, Bool, true, List, [], ◌∷◌, Option, Some, bit_and, bit_or, filter, length, map, nat_le, nat_lt, slice_index, sum, take, if◌then◌else◌}
-use Rattle.std.specs.List.{range_with_len}
-use Rattle.std.specs.Int.{bit_at}
+-- Chosen groups of bits of a set as a state, and what they weigh.
+use Rattle.std.specs.Prelude.{◌+◌, ◌-◌, ◌*◌, ◌/◌, ◌%◌, ◌^◌, ◌==◌, ◌&&◌, ◌||◌, ℕ, Bool, true, List, [], ◌∷◌, Option, Some, bit_and, bit_or, length, nat_le, sum, take, if◌then◌else◌}
+use Rattle.std.specs.List.{list_all}
 use Rattle.label_lattice.specs.declared.masks.MaskStep.{MaskStep}
 use Rattle.label_lattice.specs.declared.masks.MaskEnd.{MaskEnd}
 use Rattle.label_lattice.specs.declared.masks.Mask.{Mask}
+use Rattle.label_lattice.specs.Mask.{unset_weight}
 use Rattle.chain_search.specs.declared.chosen.Chosen.{Chosen}
 use Rattle.chain_search.specs.declared.chosen.Bits.{Bits}
 use Rattle.chain_search.specs.declared.bits.BitsMove.{BitsMove}
 
--- the lowest fourteen bits of a set, with what they weigh
-unfoldable pub chosen_of : ℕ → List ℕ → List Chosen
-chosen_of choice weights = take 14 (map (λ place. record { place = place; weight = slice_index weights place }) (filter (λ place. bit_at choice place == 1) (range_with_len 0 64)))
+-- what the bits of a set weigh
+abbrev pub set_weight : ℕ → List ℕ → ℕ
+set_weight bits weights = sum weights - unset_weight bits weights (length weights)
 
--- the chosen bits, the first as the lowest
+-- of each mask the bits that are not used before it, with what they weigh
+abbrev pub chosen_from : ℕ → List ℕ → List ℕ → List Chosen
+chosen_from used [] weights = []
+chosen_from used (mask ∷ masks) weights =
+    record { bits = bit_and mask (2 ^ 64 - 1 - used); weight = set_weight (bit_and mask (2 ^ 64 - 1 - used)) weights }
+    ∷ chosen_from (bit_or used mask) masks weights
+
+-- the first fourteen groups of bits, each without the bits of those before it
+unfoldable pub chosen_of : List ℕ → List ℕ → List Chosen
+chosen_of masks weights = take 14 (chosen_from 0 masks weights)
+
+-- one where all bits of the mask are set, else 0
+abbrev pub all_set : ℕ → ℕ → ℕ
+all_set bits mask = if bit_and bits mask == mask then 1 else 0
+
+-- the chosen groups, the first as the lowest bit
 abbrev pub state_of : List Chosen → ℕ → ℕ
 state_of [] bits = 0
-state_of (bit ∷ chosen) bits = bit_at bits bit.place + 2 * state_of chosen bits
+state_of (bit ∷ chosen) bits = all_set bits bit.bits + 2 * state_of chosen bits
 
 -- what the bits of a state weigh
 abbrev pub weight_of : List Chosen → ℕ → ℕ
 weight_of [] state = 0
 weight_of (bit ∷ chosen) state = (if state % 2 == 1 then bit.weight else 0) + weight_of chosen (state / 2)
 
--- the chosen bits ascend from the least on, and weigh no more than they do at the end
+-- none of the bits of the mask, or all
+abbrev pub is_even : ℕ → ℕ → Bool
+is_even bits mask = (bit_and bits mask == 0) || (bit_and bits mask == mask)
+
+-- none of the bits of each chosen group, or all
+abbrev pub are_even : List Chosen → ℕ → Bool
+are_even chosen bits = list_all (λ bit. is_even bits bit.bits) chosen
+
+-- the group has no bit that is used, and weighs no more than its bits do at the end
+abbrev pub is_known : ℕ → Chosen → List ℕ → Bool
+is_known used bit weights = (bit_and bit.bits used == 0) && nat_le bit.weight (set_weight bit.bits weights)
+
+-- the chosen groups have no bit that is used, nor one in common, and weigh no more than their bits do at the end
 abbrev pub are_known : ℕ → List Chosen → List ℕ → Bool
-are_known least [] weights = true
-are_known least (bit ∷ chosen) weights =
-    nat_le least bit.place && nat_lt bit.place (length weights) && nat_le bit.weight (slice_index weights bit.place) && are_known (bit.place + 1) chosen weights
+are_known used [] weights = true
+are_known used (bit ∷ chosen) weights = is_known used bit weights && are_known (bit_or used bit.bits) chosen weights
 
 abbrev pub bits_count : Bits → ℕ
 bits_count view = 2 ^ length view.chosen.items
@@ -49,6 +75,10 @@ bits_sees view a state = state == bits_shows view a
 
 abbrev pub bits_ends : Bits → ℕ → Bool
 bits_ends view state = nat_le (weight_of view.chosen.items state) view.allowed
+
+-- a step that clears all bits of a group or none, and sets all or none
+abbrev pub bits_fit_step : Bits → MaskStep → Bool
+bits_fit_step view step = are_even view.chosen.items step.clear && are_even view.chosen.items step.set
 
 -- an end at which all bits weigh no more than its floor and what is allowed
 abbrev pub bits_fit_end : Bits → MaskEnd → Bool

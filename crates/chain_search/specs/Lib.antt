@@ -18,3 +18,4 @@ pub mod BitLaws
 pub mod PartLaws
 pub mod Lastings
 pub mod Bounds
+pub mod Orders

@@ -2,9 +2,9 @@
 use Rattle.std.specs.Prelude.{◌≡◌, ◌&&◌, ◌⊎◌, ℕ, ℤ, List, Some, Bool, Contains, int_le, length, slice_get}
 use Rattle.chain_search.specs.declared.marks.Mark.{Mark}
 
--- no less gain, and a resource below
+-- no less gain, and a resource that spares this one
 abbrev pub dispenses : {R : Type 0} → (R → R → Bool) → Mark R → ℤ → R → Bool
-dispenses below mark gain resource = int_le gain mark.gain && below mark.resource resource
+dispenses spares mark gain resource = int_le gain mark.gain && spares mark.resource resource
 
 -- the mark stands beside the place
 pub record Stands {R : Type 0} (rows : List (List (Mark R))) (place : ℕ) (mark : Mark R) : Type 0 where

@@ -63,7 +63,9 @@ fn kept_by<A: Resource, B: Resource>(
 ) -> u64
     requires inside { All (λ number. number < length graph.now.arcs) leaving.now }
     ensures inside { IsIn result set }
-    ensures kept { All (λ number. (arc : ArcOf (A.Step × (MaskStep × B.Step))) → slice_get graph.now.arcs number ≡ Some arc → IsIn result (2 ^ 64 - 1 - arc.step.1.0.clear)) leaving.now }
+    ensures kept { All (λ number. (arc : ArcOf (A.Step × (MaskStep × B.Step)))
+        → slice_get graph.now.arcs number ≡ Some arc
+        → IsIn result (2 ^ 64 - 1 - arc.step.1.0.clear)) leaving.now }
 {
     let arcs = graph.arcs();
     let mut kept = set;
@@ -82,7 +84,9 @@ pub fn lasting_rest<A: Resource, B: Resource>(
     ways: &Ways,
 ) -> Result<Lasting, Memory>
     requires ways { AreWays graph.now.arcs graph.now.places ways.now }
-    ensures rest { IfOk result (λ rest. IsBound (pair_extend A.extend (pair_extend mask_extend B.extend)) (pair_done A.done (pair_done mask_done B.done)) graph.now (lasting rest)) }
+    ensures rest { IfOk result (λ rest. IsBound
+        (pair_extend A.extend (pair_extend mask_extend B.extend))
+        (pair_done A.done (pair_done mask_done B.done)) graph.now (lasting rest)) }
 {
     let sink = sink_of(graph);
     let mut kept = u64::MAX;

@@ -35,7 +35,8 @@ pub fn least_rest<R: Resource, A: Rest<R>, B: Rest<R>>(
     requires first { IsBound R.extend R.done _graph.now (A.rest first) }
     requires second { IsBound R.extend R.done _graph.now (B.rest second) }
     ensures parts { result ≡ record { first = first; second = second } }
-    ensures rest { IsBound R.extend R.done _graph.now (least_of (A.rest result.first) (B.rest result.second)) }
+    ensures rest { IsBound R.extend R.done _graph.now
+        (least_of (A.rest result.first) (B.rest result.second)) }
 {
     LeastRest { first, second }
 }

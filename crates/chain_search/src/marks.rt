@@ -4,6 +4,7 @@ ghost use Rattle.std.specs.Prelude.{◌≡◌, ◌<◌, [], All, IfOk, IfSome, O
 ghost use Rattle.std.specs.List.{list_any};
 ghost use Rattle.chain_search.specs.Marking.{HoldsMore, KeepsMark, dispenses};
 
+use crate::order::Order;
 use duty_calendar::Memory;
 use label_lattice::Resource;
 use std::alloc::Global;
@@ -41,13 +42,18 @@ impl<R> Model for Marks<R> {
     ghost view = { λ m. map (λ row. row.marks.items) m.rows.items };
 }
 
-/// One of the marks has no less gain and a resource below.
-fn any_dispenses<R: Resource>(marks: &[Mark<R>], gain: i64, resource: &R) -> bool
-    ensures any { result ≡ list_any (λ mark. dispenses R.below mark gain resource.now) marks.now }
+/// One of the marks has no less gain, and a resource that spares this one at the place.
+fn any_dispenses<R: Resource, O: Order<R>>(
+    order: &O,
+    place: u32,
+    marks: &[Mark<R>],
+    gain: i64,
+    resource: &R,
+) -> bool
+    ensures any { result ≡ list_any
+        (λ mark. dispenses (O.spares order.now place) mark gain resource.now) marks.now }
 {
-    marks
-        .iter()
-        .any(|mark| gain <= mark.gain && mark.resource.below(resource))
+    marks.iter().any(|mark| gain <= mark.gain && order.spares(place, &mark.resource, resource))
 }
 
 impl<R: Resource> MarkRow<R> {
@@ -83,12 +89,13 @@ impl<R: Resource> Marks<R> {
     }
 
     /// One of the marks beside the place dispenses with a label of this gain and resource.
-    pub fn dispense(&self, place: u32, gain: i64, resource: &R) -> bool
+    pub fn dispense<O: Order<R>>(&self, order: &O, place: u32, gain: i64, resource: &R) -> bool
         requires within { place < length self.now }
-        ensures any { IfSome (slice_get self.now place) (λ row. result ≡ list_any (λ mark. dispenses R.below mark gain resource.now) row) }
+        ensures any { IfSome (slice_get self.now place) (λ row. result ≡ list_any
+            (λ mark. dispenses (O.spares order.now place) mark gain resource.now) row) }
     {
         let row = &self.rows[place as usize];
-        any_dispenses(&row.marks, gain, resource)
+        any_dispenses(order, place, &row.marks, gain, resource)
     }
 
     /// Puts a mark beside the place.

@@ -6,9 +6,11 @@ ghost use Rattle.label_setter.specs.Chains.{IsFeasible};
 ghost use Rattle.chain_search.specs.Bounds.{IsBound};
 ghost use Rattle.chain_search.specs.Climbs.{Climbs};
 ghost use Rattle.chain_search.specs.Leavings.{AreWays};
+ghost use Rattle.chain_search.specs.Orders.{IsOrder};
 ghost use Rattle.chain_search.specs.Searches.{Hunts};
 
 use crate::marks::{Mark, Marks};
+use crate::order::Order;
 use crate::turns::{Label, Open, is_outgrown, spread};
 use crate::ways::{Ways, sink_of};
 use duty_calendar::{List, Memory};
@@ -58,30 +60,40 @@ struct Walk<R: Resource> {
 
 /// The label is done at the sink, and gains more than the bound.
 fn ends_above<R: Resource, B>(graph: &Graph<R>, above: &Above<B>, next: &Open<R>) -> bool
-    ensures ends { result ≡ (R.done next.now.resource graph.now.end && int_lt above.now.over next.now.gain) }
+    ensures ends { result ≡ (R.done next.now.resource graph.now.end && int_lt above.now.over
+        next.now.gain) }
 {
     next.resource.done(graph.end()) && above.over < next.gain
 }
 
 /// The label takes its turn.
-fn turn<R: Resource, B: Rest<R>, L: Ledger>(
+fn turn<R: Resource, O: Order<R>, B: Rest<R>, L: Ledger>(
     graph: &Graph<R>,
     ways: &Ways,
+    order: &O,
     above: &Above<B>,
     next: &Open<R>,
     walk: &mut Walk<R>,
     steps: &mut Steps<L>,
 ) -> Result<Outcome, Memory>
     requires ways { AreWays graph.now.arcs graph.now.places ways.now }
+    requires order { IsOrder R.extend R.done graph.now (O.spares order.now) }
     requires rest { IsBound R.extend R.done graph.now (B.rest above.now.rest) }
-    requires hunts { Hunts R.extend R.done graph.now above.now.over walk.old.path.items walk.old.marks (walk.old.waiting.items ++ next.now ∷ []) }
-    ensures goes { result ≡ Ok Outcome.Goes → Hunts R.extend R.done graph.now above.now.over walk.new.path.items walk.new.marks walk.new.waiting.items }
-    ensures rises { result ≡ Ok Outcome.Comes → Hunts R.extend R.done graph.now next.now.gain walk.new.path.items walk.new.marks walk.new.waiting.items }
-    ensures comes { result ≡ Ok Outcome.Comes → IsFeasible R.extend R.done graph.now (take next.now.before walk.new.path.items ++ next.now.arc ∷ []) next.now.gain }
+    requires hunts { Hunts R.extend R.done graph.now above.now.over walk.old.path.items
+        walk.old.marks (walk.old.waiting.items ++ next.now ∷ []) }
+    ensures goes { result ≡ Ok Outcome.Goes → Hunts R.extend R.done graph.now above.now.over
+        walk.new.path.items walk.new.marks walk.new.waiting.items }
+    ensures rises { result ≡ Ok Outcome.Comes
+        → Hunts R.extend R.done graph.now next.now.gain walk.new.path.items walk.new.marks
+        walk.new.waiting.items }
+    ensures comes { result ≡ Ok Outcome.Comes
+        → IsFeasible R.extend R.done graph.now
+        (take next.now.before walk.new.path.items ++ next.now.arc ∷ []) next.now.gain }
     ensures above { result ≡ Ok Outcome.Comes → above.now.over <ℤ next.now.gain }
     ensures along { result ≡ Ok Outcome.Comes → next.now.before ≤ length walk.new.path.items }
     ensures stops { result ≡ Ok Outcome.Stops → walk.new.left ≡ 0 }
-    ensures smaller { OnOk result (walk.new.left + length walk.new.waiting.items ≤ walk.old.left + length walk.old.waiting.items) }
+    ensures smaller { OnOk result (walk.new.left + length walk.new.waiting.items
+        ≤ walk.old.left + length walk.old.waiting.items) }
     ensures steps { steps.new + walk.new.left ≡ steps.old + walk.old.left }
 {
     if is_outgrown(above, next) {
@@ -93,7 +105,10 @@ fn turn<R: Resource, B: Rest<R>, L: Ledger>(
         }
         return Ok(Outcome::Comes);
     }
-    if walk.marks.dispense(next.place, next.gain, &next.resource) {
+    if walk
+        .marks
+        .dispense(order, next.place, next.gain, &next.resource)
+    {
         return Ok(Outcome::Goes);
     }
     let mark = Mark {
@@ -136,9 +151,13 @@ fn set_out<R: Resource, B: Rest<R>, L: Ledger>(
 ) -> Result<Option<Walk<R>>, Memory>
     requires ways { AreWays graph.now.arcs graph.now.places ways.now }
     requires rest { IsBound R.extend R.done graph.now (B.rest above.now.rest) }
-    ensures hunts { IfOk result (λ answer. IfSome answer (λ walk. Hunts R.extend R.done graph.now above.now.over walk.path.items walk.marks walk.waiting.items)) }
-    ensures few { IfOk result (λ answer. IfSome answer (λ walk. walk.left + length walk.waiting.items ≤ limit)) }
-    ensures left { IfOk result (λ answer. IfSome answer (λ walk. steps.new + walk.left ≡ steps.old + limit)) }
+    ensures hunts { IfOk result (λ answer. IfSome answer
+        (λ walk. Hunts R.extend R.done graph.now above.now.over walk.path.items walk.marks
+        walk.waiting.items)) }
+    ensures few { IfOk result (λ answer. IfSome answer
+        (λ walk. walk.left + length walk.waiting.items ≤ limit)) }
+    ensures left { IfOk result (λ answer. IfSome answer
+        (λ walk. steps.new + walk.left ≡ steps.old + limit)) }
     ensures out { IfOk result (λ answer. IfNone answer (steps.new ≡ steps.old + limit)) }
     ensures steps { steps.new ≤ steps.old + limit }
 {
@@ -173,7 +192,8 @@ fn set_out<R: Resource, B: Rest<R>, L: Ledger>(
 fn chain_of<R>(alloc: Global, path: &[u32], next: &Open<R>) -> Result<Traced, Memory>
     requires along { next.now.before ≤ length path.now }
     ensures gain { IfOk result (λ traced. traced.gain ≡ next.now.gain) }
-    ensures arcs { IfOk result (λ traced. traced.arcs ≡ take next.now.before path.now ++ next.now.arc ∷ []) }
+    ensures arcs { IfOk result (λ traced. traced.arcs
+        ≡ take next.now.before path.now ++ next.now.arc ∷ []) }
 {
     let mut arcs = Vec::new(alloc);
     arcs.extend_from_slice(&path[..next.before])?;
@@ -185,23 +205,28 @@ fn chain_of<R>(alloc: Global, path: &[u32], next: &Open<R>) -> Result<Traced, Me
 }
 
 /// Looks for so many feasible chains from the source to the sink, by their arcs, of which the first gains more than the
-/// bound and each later one more than the one before. Each call of `extend` is one step. Where a step more than the
-/// limit were needed, the climb ends with what it found.
-pub fn climb_above<R: Resource, B: Rest<R> + Drop, L: Ledger>(
+/// bound and each later one more than the one before. A label is let go where one at its place that took its turn, with
+/// no less gain, spares it by the order. Each call of `extend` is one step. Where a step more than the limit were
+/// needed, the climb ends with what it found.
+pub fn climb_above<R: Resource, O: Order<R>, B: Rest<R> + Drop, L: Ledger>(
     alloc: Global,
     graph: &Graph<R>,
     ways: &Ways,
+    order: &O,
     above: Above<B>,
     chains: u64,
     limit: u64,
     steps: &mut Steps<L>,
 ) -> Result<Climb, Memory>
     requires ways { AreWays graph.now.arcs graph.now.places ways.now }
+    requires order { IsOrder R.extend R.done graph.now (O.spares order.now) }
     requires rest { IsBound R.extend R.done graph.now (B.rest above.rest) }
     requires some { 0 < chains }
     ensures climbs { IfOk result (Climbs R.extend R.done graph.now above.over) }
-    ensures enough { IfOk result (λ climb. climb.ended ≡ Ended.Enough → steps.old + chains ≤ steps.new) }
-    ensures limit { IfOk result (λ climb. climb.ended ≡ Ended.Limit → steps.new ≡ steps.old + limit) }
+    ensures enough { IfOk result (λ climb. climb.ended ≡ Ended.Enough
+        → steps.old + chains ≤ steps.new) }
+    ensures limit { IfOk result (λ climb. climb.ended ≡ Ended.Limit
+        → steps.new ≡ steps.old + limit) }
     ensures steps { steps.new ≤ steps.old + limit }
 {
     let mut above = above;
@@ -216,7 +241,7 @@ pub fn climb_above<R: Resource, B: Rest<R> + Drop, L: Ledger>(
     };
     let mut wanted = chains;
     while let Some(next) = walk.waiting.pop() {
-        match turn(graph, ways, &above, &next, &mut walk, steps)? {
+        match turn(graph, ways, order, &above, &next, &mut walk, steps)? {
             Outcome::Goes => {}
             Outcome::Stops => {
                 let ended = Ended::Limit;

@@ -17,7 +17,8 @@ pub enum Shift {
 impl Shift {
     /// All states stay as they are.
     pub(crate) fn stays(&self) -> bool
-        ensures stays { result ≡ true → (state : ℕ) (moved : Option ℕ) → IsShifted self.now state moved → moved ≡ Some state }
+        ensures stays { result ≡ true → (state : ℕ) (moved : Option ℕ)
+            → IsShifted self.now state moved → moved ≡ Some state }
     {
         match self {
             Shift::Less(by) | Shift::Floor(by) => *by == 0,

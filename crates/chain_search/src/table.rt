@@ -54,8 +54,11 @@ impl<R: Resource, C: Coarse<R>> Rest<R> for CoarseRest<C> {
 fn sink_row<R: Resource, C: Coarse<R>>(alloc: Global, coarse: &C) -> Result<Vec<i64>, Memory>
     ensures long { IfOk result (λ row. length row.items ≡ C.count coarse.now) }
     ensures between { IfOk result (λ row. IsBetween 0 row.items) }
-    ensures value { IfOk result (λ row. (state : ℕ) → state < C.count coarse.now → get_or row.items state (pos 0) ≡ (if C.ends coarse.now state then pos 0 else neg_ℤ (pos (2 ^ 60)))) }
-    ensures ends { IfOk result (λ row. (state : ℕ) → state < C.count coarse.now → C.ends coarse.now state ≡ true → pos 0 ≤ℤ get_or row.items state (pos 0)) }
+    ensures value { IfOk result (λ row. (state : ℕ) → state < C.count coarse.now
+        → get_or row.items state (pos 0) ≡ (if C.ends coarse.now state then pos 0 else neg_ℤ
+        (pos (2 ^ 60)))) }
+    ensures ends { IfOk result (λ row. (state : ℕ) → state < C.count coarse.now
+        → C.ends coarse.now state ≡ true → pos 0 ≤ℤ get_or row.items state (pos 0)) }
 {
     let mut row = Vec::new(alloc);
     for state in 0..coarse.count() {
@@ -71,7 +74,8 @@ fn sink_row<R: Resource, C: Coarse<R>>(alloc: Global, coarse: &C) -> Result<Vec<
 /// Makes all numbers of the row impossible.
 fn clear(row: &mut [i64])
     ensures between { IsBetween 0 row.new }
-    ensures value { (state : ℕ) → state < length row.new → get_or row.new state (pos 0) ≡ neg_ℤ (pos (2 ^ 60)) }
+    ensures value { (state : ℕ) → state < length row.new
+        → get_or row.new state (pos 0) ≡ neg_ℤ (pos (2 ^ 60)) }
 {
     for state in 0..row.len() {
         row[state] = IMPOSSIBLE;
@@ -87,7 +91,8 @@ fn higher<S>(old: &i64, after: &i64, arc: &Arc<S>) -> i64
     ensures one { (result ≡ old.now) ⊎ (result ≡ after.now +ℤ arc.now.gain) }
     ensures risen { old.now ≤ℤ result }
     ensures over { (after.now +ℤ arc.now.gain) ≤ℤ result }
-    ensures least { (most : ℤ) → old.now ≤ℤ most → (after.now +ℤ arc.now.gain) ≤ℤ most → result ≤ℤ most }
+    ensures least { (most : ℤ) → old.now ≤ℤ most → (after.now +ℤ arc.now.gain) ≤ℤ most
+        → result ≤ℤ most }
 {
     let most = *after + arc.gain;
     if *old < most { most } else { *old }
@@ -128,7 +133,8 @@ fn raise_all<S>(here: &mut [i64], there: &[i64], down: usize, arc: &Arc<S>)
     requires between { IsBetween 2000 there.now }
     requires low { neg_ℤ (pos (2 ^ 40)) ≤ℤ arc.now.gain }
     requires high { arc.now.gain ≤ℤ pos (2 ^ 40) }
-    ensures raised { RaisedBy (λ state. Some (state - down)) there.now arc.now.gain here.old here.new }
+    ensures raised { RaisedBy (λ state. Some (state - down)) there.now arc.now.gain here.old
+        here.new }
 {
     raise_below(here, there, down, arc);
     raise_above(here, there, down, arc);
@@ -142,7 +148,8 @@ fn raise_each<R: Resource, C: Coarse<R>>(
     by: &C::Move,
 )
     requires few { length here.old ≤ 2 ^ 32 }
-    requires stays { (state next : ℕ) → state < length here.old → C.moves by.now state ≡ Some next → next < length there.now }
+    requires stays { (state next : ℕ) → state < length here.old → C.moves by.now state ≡ Some next
+        → next < length there.now }
     requires between { IsBetween 2000 there.now }
     requires low { neg_ℤ (pos (2 ^ 40)) ≤ℤ arc.now.gain }
     requires high { arc.now.gain ≤ℤ pos (2 ^ 40) }
@@ -161,11 +168,13 @@ fn raise_each<R: Resource, C: Coarse<R>>(
 fn raise<R: Resource, C: Coarse<R>>(here: &mut [i64], there: &[i64], arc: &Arc<R::Step>, coarse: &C)
     requires wide { length here.old ≡ C.count coarse.now }
     requires few { length here.old ≤ 2 ^ 32 }
-    requires stays { (state next : ℕ) → state < length here.old → C.moves (C.move_of coarse.now arc.now.step) state ≡ Some next → next < length there.now }
+    requires stays { (state next : ℕ) → state < length here.old
+        → C.moves (C.move_of coarse.now arc.now.step) state ≡ Some next → next < length there.now }
     requires between { IsBetween 2000 there.now }
     requires low { neg_ℤ (pos (2 ^ 40)) ≤ℤ arc.now.gain }
     requires high { arc.now.gain ≤ℤ pos (2 ^ 40) }
-    ensures raised { RaisedBy (C.moves (C.move_of coarse.now arc.now.step)) there.now arc.now.gain here.old here.new }
+    ensures raised { RaisedBy (C.moves (C.move_of coarse.now arc.now.step)) there.now arc.now.gain
+        here.old here.new }
 {
     let by = coarse.move_of(&arc.step);
     match coarse.shift(&by) {
@@ -179,7 +188,8 @@ fn raise<R: Resource, C: Coarse<R>>(here: &mut [i64], there: &[i64], arc: &Arc<R
 fn row_of(table: &[i64], back: usize, count: usize) -> &[i64]
     requires within { (back + 1) * count ≤ length table.now }
     ensures long { length result.now ≡ count }
-    ensures at { (state : ℕ) → state < count → get_or result.now state (pos 0) ≡ get_or table.now (back * count + state) (pos 0) }
+    ensures at { (state : ℕ) → state < count → get_or result.now state (pos 0) ≡ get_or table.now
+        (back * count + state) (pos 0) }
 {
     let first = back * count;
     &table[first..first + count]
@@ -188,7 +198,8 @@ fn row_of(table: &[i64], back: usize, count: usize) -> &[i64]
 /// The arc leads to the next place, gains nothing there and leaves all states as they are.
 fn passes_on<R: Resource, C: Coarse<R>>(arc: &Arc<R::Step>, place: u32, coarse: &C) -> bool
     requires few { place < 2000 }
-    ensures passes { result ≡ true → PassesOn (λ step. C.moves (C.move_of coarse.now step)) (C.count coarse.now) place arc.now }
+    ensures passes { result ≡ true → PassesOn (λ step. C.moves (C.move_of coarse.now step))
+        (C.count coarse.now) place arc.now }
 {
     if arc.to != place + 1 || arc.gain != 0 {
         return false;
@@ -208,7 +219,9 @@ fn passing<R: Resource, C: Coarse<R>>(
     requires inside { place < graph.now.places }
     requires leaving { Leaving graph.now.arcs place leaving.now }
     ensures within { result ≤ length leaving.now }
-    ensures passing { (k number : ℕ) (arc : ArcOf R.Step) → k < result → slice_get leaving.now k ≡ Some number → slice_get graph.now.arcs number ≡ Some arc → PassesOn (λ step. C.moves (C.move_of coarse.now step)) (C.count coarse.now) place arc }
+    ensures passing { (k number : ℕ) (arc : ArcOf R.Step) → k < result
+        → slice_get leaving.now k ≡ Some number → slice_get graph.now.arcs number ≡ Some arc
+        → PassesOn (λ step. C.moves (C.move_of coarse.now step)) (C.count coarse.now) place arc }
 {
     if leaving.is_empty() {
         return 0;
@@ -221,7 +234,8 @@ fn passing<R: Resource, C: Coarse<R>>(
 /// Makes all numbers of the row impossible, but where arcs pass on those that it holds.
 fn begin_row(row: &mut [i64], passed: usize)
     ensures between { passed ≡ 0 → IsBetween 0 row.new }
-    ensures value { passed ≡ 0 → (state : ℕ) → state < length row.new → get_or row.new state (pos 0) ≡ neg_ℤ (pos (2 ^ 60)) }
+    ensures value { passed ≡ 0 → (state : ℕ) → state < length row.new
+        → get_or row.new state (pos 0) ≡ neg_ℤ (pos (2 ^ 60)) }
     ensures kept { 0 < passed → row.new ≡ row.old }
 {
     if passed == 0 {
@@ -242,12 +256,18 @@ fn place_row<R: Resource, C: Coarse<R>>(
     requires leaving { Leaving graph.now.arcs place leaving.now }
     requires follows { follows (C.fits_step coarse.now) (C.fits_end coarse.now) graph.now ≡ true }
     requires wide { length row.old ≡ C.count coarse.now }
-    requires last { (state : ℕ) → state < C.count coarse.now → get_or row.old state (pos 0) ≡ get_or table.now ((graph.now.places - 2 - place) * C.count coarse.now + state) (pos 0) }
+    requires last { (state : ℕ) → state < C.count coarse.now
+        → get_or row.old state (pos 0) ≡ get_or table.now
+        ((graph.now.places - 2 - place) * C.count coarse.now + state) (pos 0) }
     requires long { length table.now ≡ (graph.now.places - 1 - place) * C.count coarse.now }
     requires between { IsBetween (graph.now.places - 1 - place) table.now }
     ensures between { IsBetween (graph.now.places - place) row.new }
-    ensures from { (state : ℕ) → state < C.count coarse.now → IsLowOrBack (λ step. C.moves (C.move_of coarse.now step)) (C.count coarse.now) (graph.now.places - 1) graph.now.arcs place table.now state (get_or row.new state (pos 0)) }
-    ensures covers { (number : ℕ) (arc : ArcOf R.Step) → slice_get graph.now.arcs number ≡ Some arc → arc.from ≡ place → GoesBack (λ step. C.moves (C.move_of coarse.now step)) (C.count coarse.now) (graph.now.places - 1) table.now row.new arc }
+    ensures from { (state : ℕ) → state < C.count coarse.now
+        → IsLowOrBack (λ step. C.moves (C.move_of coarse.now step)) (C.count coarse.now)
+        (graph.now.places - 1) graph.now.arcs place table.now state (get_or row.new state (pos 0)) }
+    ensures covers { (number : ℕ) (arc : ArcOf R.Step) → slice_get graph.now.arcs number ≡ Some arc
+        → arc.from ≡ place → GoesBack (λ step. C.moves (C.move_of coarse.now step))
+        (C.count coarse.now) (graph.now.places - 1) table.now row.new arc }
 {
     let sink = sink_of(graph);
     let arcs = graph.arcs();
@@ -270,8 +290,11 @@ pub fn coarse_rest<R: Resource, C: Coarse<R> + Drop>(
 ) -> Result<CoarseRest<C>, Memory>
     requires ways { AreWays graph.now.arcs graph.now.places ways.now }
     requires follows { follows (C.fits_step coarse) (C.fits_end coarse) graph.now ≡ true }
-    ensures rest { IfOk result (λ rest. IsBound R.extend R.done graph.now (rested C.count C.shows rest)) }
-    ensures attained { IfOk result (λ rest. (place : ℕ) (a : R) → place < graph.now.places → IsSeenOrLow (λ step. C.moves (C.move_of coarse step)) (C.ends coarse) graph.now.arcs (graph.now.places - 1) place (C.shows coarse a) (rested C.count C.shows rest place a)) }
+    ensures rest { IfOk result (λ rest. IsBound R.extend R.done graph.now
+        (rested C.count C.shows rest)) }
+    ensures attained { IfOk result (λ rest. (place : ℕ) (a : R) → place < graph.now.places
+        → IsSeenOrLow (λ step. C.moves (C.move_of coarse step)) (C.ends coarse) graph.now.arcs
+        (graph.now.places - 1) place (C.shows coarse a) (rested C.count C.shows rest place a)) }
 {
     let sink = sink_of(graph);
     let mut row = sink_row(alloc, &coarse)?;

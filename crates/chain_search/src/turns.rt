@@ -62,7 +62,8 @@ fn gain_by<R: Resource>(label: &Label<R>, arc: &Arc<R::Step>, places: u32) -> i6
 
 /// What a chain may come to from a label, where that is above the bound.
 fn most_above<R, B: Rest<R>>(above: &Above<B>, label: &Label<R>) -> Option<i64>
-    ensures low { IfNone result ((label.now.gain +ℤ B.rest above.now.rest label.now.place label.now.resource) ≤ℤ above.now.over) }
+    ensures low { IfNone result ((label.now.gain +ℤ B.rest above.now.rest label.now.place
+        label.now.resource) ≤ℤ above.now.over) }
 {
     let rest = above.rest.rest(label.place, &label.resource);
     if i128::from(label.gain) + i128::from(rest) <= i128::from(above.over) {
@@ -73,7 +74,8 @@ fn most_above<R, B: Rest<R>>(above: &Above<B>, label: &Label<R>) -> Option<i64>
 
 /// Nothing above the bound comes from the label: the bound rose while it waited.
 pub fn is_outgrown<R: Resource, B: Rest<R>>(above: &Above<B>, next: &Open<R>) -> bool
-    ensures low { result ≡ true → (next.now.gain +ℤ B.rest above.now.rest next.now.place next.now.resource) ≤ℤ above.now.over }
+    ensures low { result ≡ true → (next.now.gain +ℤ B.rest above.now.rest next.now.place
+        next.now.resource) ≤ℤ above.now.over }
 {
     let label = Label {
         before: next.before,
@@ -96,7 +98,8 @@ fn enter<R: Resource, B: Rest<R>>(
     requires from { arc.now.from ≡ label.now.place }
     requires few { places ≤ 2000 }
     requires within { IsWithin label.now.place label.now.gain }
-    ensures enters { Enters R.extend (B.rest above.now.rest) above.now.over label.now number arc.now result }
+    ensures enters { Enters R.extend (B.rest above.now.rest) above.now.over label.now number arc.now
+        result }
 {
     let next = Label {
         before: label.before,
@@ -149,9 +152,11 @@ pub fn spread<R: Resource, B: Rest<R>, L: Ledger>(
     requires leaving { Leaving graph.now.arcs label.now.place leaving.now }
     requires before { label.now.place + 1 < graph.now.places }
     requires within { IsWithin label.now.place label.now.gain }
-    ensures spreads { result ≡ Ok true → Spreads R.extend R.done graph.now above.now.over label.now waiting.old.items waiting.new.items }
+    ensures spreads { result ≡ Ok true → Spreads R.extend R.done graph.now above.now.over label.now
+        waiting.old.items waiting.new.items }
     ensures out { result ≡ Ok false → left.new ≡ 0 }
-    ensures smaller { OnOk result (left.new + length waiting.new.items ≤ left.old + length waiting.old.items) }
+    ensures smaller { OnOk result (left.new + length waiting.new.items
+        ≤ left.old + length waiting.old.items) }
     ensures steps { steps.new + left.new ≡ steps.old + left.old }
 {
     let arcs = graph.arcs();

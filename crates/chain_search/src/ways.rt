@@ -59,7 +59,7 @@ impl Ways {
     }
 
     /// The arcs that leave this place.
-    pub(crate) fn from(&self, place: u32) -> &[u32]
+    pub fn from(&self, place: u32) -> &[u32]
         requires within { place < length self.now }
         ensures leaving { slice_get self.now place ≡ Some result.now }
     {

@@ -16,7 +16,7 @@ pub(crate) struct Weighed {
 }
 
 /// What the bits of a set weigh together.
-fn weight_of_set(weights: &[u32; 64], bits: u64) -> u64
+pub(crate) fn weight_of_set(weights: &[u32; 64], bits: u64) -> u64
     requires small { sum weights.now < 2 ^ 39 }
     ensures weight { unset_weight bits weights.now (length weights.now) + result ≡ sum weights.now }
 {

@@ -1,23 +1,30 @@
-use Rattle.std.proofs.Common.{◌<◌, ◌≤◌, length, sym, ◌∙◌, arith}
-use Rattle.chain_search.proofs.BitChoice.{chosen_all, chosen_full, chosen_push, chosen_skip, chosen_start}
+use Rattle.std.proofs.Common.{◌≡◌, ◌<◌, ◌^◌, List, true, length, arith, refl, sym, subst}
+use Rattle.std.specs.Prelude.{All}
+use Rattle.chain_search.specs.declared.chosen.Chosen.{Chosen}
+use Rattle.chain_search.specs.BitStates.{are_known}
+use Rattle.chain_search.proofs.BitChoice.{chosen_all, chosen_inside, chosen_known, chosen_light, chosen_more, chosen_start, group_is}
 use Rattle.chain_search.proofs.bits.choose.Goals as goal
 
-pub loop-place-init : goal.loop-place-init
-loop-place-init c = rw c.new-chosen.ensures.items (chosen_start c.args.choice c.args.weights.now)
+pub loop-group-init : goal.loop-group-init
+loop-group-init c = rw c.new-chosen.ensures.items (chosen_start c.args.groups.now c.args.weights.now)
 
-pub loop-place-preserved-then-bit_of-eq0 : goal.loop-place-preserved-then-bit_of-eq0
-loop-place-preserved-then-bit_of-eq0 c = chosen_skip c.args.choice c.args.weights.now c.loop-place.place c.loop-place.chosen.items (sym c.bit_of.ensures.bit ∙ c.if-bit_of-eq0.true) c.loop-place.invariant
+pub loop-group-preserved : goal.loop-group-preserved
+loop-group-preserved c =
+    let room : length c.loop-group.chosen.items < 14 = omega arith in
+    chosen_more c.loop-group.used c.loop-group.group-index _ c.args.groups.now c.args.weights.now c.loop-group.chosen.items c.push.new.self.items c.loop-group-test.true room
+    (group_is _ c.loop-group.used _ c.weight_of_set-weight.result c.args.weights.now refl c.weight_of_set-weight.ensures.weight) c.in_ok-push.ensures.items c.loop-group.invariant
 
-pub loop-place-preserved-then-len-ge-MOST : goal.loop-place-preserved-then-len-ge-MOST
-loop-place-preserved-then-len-ge-MOST c =
-    let full : 14 ≤ length c.loop-place.chosen.items = omega arith in
-    chosen_full c.args.choice c.args.weights.now c.loop-place.place c.loop-place.chosen.items (λ e. c.if-bit_of-eq0.false (c.bit_of.ensures.bit ∙ e)) full c.loop-place.invariant
+pub returns-clause-inside : goal.returns-clause-inside
+returns-clause-inside c =
+    let all = chosen_all c.loop-group.used c.loop-group.group-index c.args.groups.now c.args.weights.now c.loop-group.chosen.items c.loop-group-test.false c.loop-group.invariant in
+    subst (λ (xs : List Chosen). All (λ (bit : Chosen). bit.bits < 2 ^ 64) xs) (sym all) (chosen_inside c.args.groups.now c.args.weights.now)
 
-pub loop-place-preserved : goal.loop-place-preserved
-loop-place-preserved c =
-    let room : length c.loop-place.chosen.items < 14 = omega arith in
-    let inside : c.loop-place.place < length c.args.weights.now = (let long = c.told-weights in let less = c.loop-place-test.true in omega (arith, long, less)) in
-    chosen_push c.args.choice c.args.weights.now c.loop-place.place c.loop-place.chosen.items c.push.new.self.items (λ e. c.if-bit_of-eq0.false (c.bit_of.ensures.bit ∙ e)) room inside c.in_ok-push.ensures.items c.loop-place.invariant
+pub returns-clause-light : goal.returns-clause-light
+returns-clause-light c =
+    let all = chosen_all c.loop-group.used c.loop-group.group-index c.args.groups.now c.args.weights.now c.loop-group.chosen.items c.loop-group-test.false c.loop-group.invariant in
+    subst (λ (xs : List Chosen). All (λ (bit : Chosen). bit.weight < 2 ^ 39) xs) (sym all) (chosen_light c.args.groups.now c.args.weights.now c.requires.small)
 
-pub returns-clause-chosen : goal.returns-clause-chosen
-returns-clause-chosen c = chosen_all c.args.choice c.args.weights.now c.loop-place.place c.loop-place.chosen.items (omega arith) c.loop-place.invariant
+pub returns-clause-known : goal.returns-clause-known
+returns-clause-known c =
+    let all = chosen_all c.loop-group.used c.loop-group.group-index c.args.groups.now c.args.weights.now c.loop-group.chosen.items c.loop-group-test.false c.loop-group.invariant in
+    subst (λ (xs : List Chosen). are_known 0 xs c.args.weights.now ≡ true) (sym all) (chosen_known c.args.groups.now c.args.weights.now)

@@ -1,5 +1,6 @@
+use Rattle.std.proofs.Common.{drop}
 use Rattle.chain_search.proofs.BitChoice.{IsChosen}
 use Rattle.chain_search.proofs.bits.choose.Given as goal
 
-abbrev pub invariant-loop-place : goal.invariant-loop-place
-invariant-loop-place l = IsChosen l.choice l.place l.weights l.chosen.items
+abbrev pub invariant-loop-group : goal.invariant-loop-group
+invariant-loop-group l = IsChosen l.used l.groups (drop l.group-index l.groups) l.weights l.chosen.items

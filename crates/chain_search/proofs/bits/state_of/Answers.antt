@@ -1,5 +1,4 @@
 use Rattle.std.proofs.Common.{arith}
-use Rattle.std.proofs.lemmas.Nat.Bits.{bit_at-lt}
 use Rattle.chain_search.proofs.BitLoops.{small_state, state_more}
 use Rattle.chain_search.proofs.bits.state_of.Goals as goal
 
@@ -9,8 +8,8 @@ overflow_mul-state c = let small = small_state c.args.chosen.now c.args.bits c.l
 pub overflow_add-state : goal.overflow_add-state
 overflow_add-state c =
     let small = small_state c.args.chosen.now c.args.bits c.loop-back.back c.loop-back.state c.requires.few c.loop-back-test.true c.loop-back.invariant in
-    let bit = c.bit_of.ensures in
-    omega (arith, small, bit, bit_at-lt)
+    let low = c.all_set.ensures.small in
+    omega (arith, small, low)
 
 pub loop-back-preserved : goal.loop-back-preserved
-loop-back-preserved c = state_more c.args.chosen.now c.args.bits c.loop-back.back c.loop-back.state c.bit_of.result _ c.loop-back-test.true c.bit_of.ensures.bit c.loop-back.invariant
+loop-back-preserved c = state_more c.args.chosen.now c.args.bits c.loop-back.back c.loop-back.state c.all_set.result _ c.loop-back-test.true c.all_set.ensures.set c.loop-back.invariant

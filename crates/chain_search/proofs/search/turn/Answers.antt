@@ -57,9 +57,9 @@ returns-then-dispense-clause-goes g c = λ _.
     let row = get_or c.args.walk.now.marks c.args.next.now.place [] in
     let is : slice_get c.args.walk.now.marks c.args.next.now.place ≡ Some row = slice_get-get_or c.args.walk.now.marks c.args.next.now.place [] within in
     let range : FitsSigned w64 c.args.next.now.gain = search rules in
-    let any : c.dispense.result ≡ list_any (λ mark. dispenses g.R.Lattice.below mark (to_z w64 (of_z w64 c.args.next.now.gain)) c.args.next.now.resource) row = rw is at c.dispense.ensures.any in
-    hunt_dispensed g.R.Resource.extend g.R.Resource.done c.args.graph.now c.args.above.now.over g.R.Lattice.below g.met.R.Resource.resource_laws c.args.walk.now.path.items c.args.walk.now.marks c.args.walk.now.waiting.items c.args.next.now row is
-    (subst (λ (x : ℤ). list_any (λ mark. dispenses g.R.Lattice.below mark x c.args.next.now.resource) row ≡ true) (to_z-of_z w64 c.args.next.now.gain range) (sym any ∙ c.if-dispense.true)) c.requires.hunts
+    let any : c.dispense.result ≡ list_any (λ mark. dispenses (g.O.Order.spares c.args.order.now c.args.next.now.place) mark (to_z w64 (of_z w64 c.args.next.now.gain)) c.args.next.now.resource) row = rw is at c.dispense.ensures.any in
+    hunt_dispensed g.R.Resource.extend g.R.Resource.done c.args.graph.now c.args.above.now.over (g.O.Order.spares c.args.order.now) c.requires.order c.args.walk.now.path.items c.args.walk.now.marks c.args.walk.now.waiting.items c.args.next.now row is
+    (subst (λ (x : ℤ). list_any (λ mark. dispenses (g.O.Order.spares c.args.order.now c.args.next.now.place) mark x c.args.next.now.resource) row ≡ true) (to_z-of_z w64 c.args.next.now.gain range) (sym any ∙ c.if-dispense.true)) c.requires.hunts
 
 pub keep-requires : goal.keep-requires
 keep-requires g c =

@@ -1,7 +1,8 @@
 use Rattle.std.proofs.Common.{◌+◌, ◌<◌, ◌^◌, ℕ, arith, ap}
 use Rattle.std.specs.Prelude.{slice_index}
 use Rattle.std.proofs.Math.Facts.{Fits-lt-pow}
-use Rattle.chain_search.proofs.SetWeights.{lowest_turned, set_none, set_of_all, set_sum}
+use Rattle.chain_search.specs.BitLaws.{set_sum}
+use Rattle.chain_search.proofs.SetWeights.{lowest_turned, set_none, set_of_all}
 use Rattle.chain_search.proofs.weighed.weight_of_set.Goals as goal
 
 pub loop-left-preserved : goal.loop-left-preserved

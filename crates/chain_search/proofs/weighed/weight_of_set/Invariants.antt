@@ -1,6 +1,6 @@
 use Rattle.std.proofs.Common.{◌≡◌, ◌+◌}
 use Rattle.std.specs.Prelude.{slice_index}
-use Rattle.chain_search.proofs.SetWeights.{set_sum}
+use Rattle.chain_search.specs.BitLaws.{set_sum}
 use Rattle.chain_search.proofs.weighed.weight_of_set.Given as goal
 
 abbrev pub invariant-loop-left : goal.invariant-loop-left
