@@ -8,7 +8,9 @@ ghost use Rattle.roster_model.specs.Goals.{IsNode};
 ghost use Rattle.roster_model.specs.Valid.{IsBid};
 ghost use Rattle.roster_model.specs.Weights.{AreSmallWeights};
 
-use crate::{BestFault, Over, PricedLine, best, best_over, heaviest, heaviest_over};
+use crate::{
+    BestFault, BestInFault, Generator, Over, PricedLine, best, best_over, heaviest, heaviest_over,
+};
 use duty_calendar::{
     Base, Duty, Flown, Horizon, Leg, List, Member, Memory, Name, Pairing, Rules, Station,
 };
@@ -16,7 +18,7 @@ use label_lattice::Steps;
 use line_lens::{
     LensFault, asks_nothing, lens_line, line_graph, narrow_lens, standard_lens, take_graph,
 };
-use roster_model::{Bid, Decision, Goal, Lens, Line, Node, Problem, Wish};
+use roster_model::{Bid, Decision, Goal, Lens, Line, Node, Problem, Window, WindowKind, Wish};
 use std::alloc::Global;
 use std::marker::Brand;
 use std::sync::ledger::{Blank, Ledger};
@@ -535,5 +537,87 @@ fn a_lens_tracks_what_the_goal_asks(rt: HostRuntime) -> Result<(), BestFault> {
     let floors = with(with(List::new(alloc), 10)?, 1)?;
     let (tracked, asks_nothing) = narrowed(alloc, &problem, floors)?;
     assert!(rt; tracked == 1 && !asks_nothing);
+    Ok(())
+}
+
+/// So many windows of four weeks, each from the month's first minute on.
+fn windows(alloc: Global, count: u32) -> Result<List<Window>, Memory>
+    ensures count { IfOk result (λ list. length list ≡ count) }
+{
+    let window = Window {
+        kind: WindowKind::Flight672,
+        start: 525_600,
+    };
+    let mut list = List::new(alloc);
+    for _place in 0..count {
+        list = with(list, window)?;
+    }
+    Ok(list)
+}
+
+/// What a generator answers, and whether the first pairing alone is its line then.
+type Told = (Result<Option<i64>, BestInFault>, bool);
+
+/// What a generator with so much room answers of the first member, where the one pairing weighs 5.
+fn told_from<L: Ledger>(
+    alloc: Global,
+    problem: &Problem,
+    lens: &Lens,
+    room: u32,
+    blank: Blank,
+) -> Result<Told, Memory>
+    requires some { 0 < length problem.now.base.members }
+    requires one { length problem.now.base.pairings ≡ 1 }
+    requires listed { length lens.now.windows < 2 ^ 32 }
+    requires name { blank.name ≡ L.name }
+    requires parts { blank.parts ≡ L.parts }
+    requires share { 0 < blank.parts }
+{
+    let goal = Goal {
+        floors: List::new(alloc),
+        grant: None,
+    };
+    let node = Node::new(alloc);
+    let mut steps: Steps<L> = Steps::new(blank);
+    let mut generator = Generator::new(alloc, problem, room)?;
+    let answer = generator.best_in(problem, 0, &goal, &node, lens, &[5], &mut steps);
+    Ok((answer, generator.line() == [0].as_slice()))
+}
+
+/// What it answers through a lens of this grain with so many windows.
+fn told(alloc: Global, room: u32, grain: u32, count: u32) -> Result<Told, Memory> {
+    let problem = alone(alloc, tenth(alloc, 61)?, 61, 61)?;
+    let lens = Lens {
+        grain,
+        tracked: 0,
+        free30: false,
+        days: false,
+        windows: windows(alloc, count)?,
+    };
+    told_from::<Brand>(alloc, &problem, &lens, room, Blank::new(1))
+}
+
+#[test]
+fn a_generator_answers_in_its_room(rt: HostRuntime) -> Result<(), Memory> {
+    let alloc = rt.alloc();
+    assert!(rt; told(alloc, 100, 60, 0)? == (Ok(Some(5)), true));
+    assert!(rt; told(alloc, 1, 60, 0)? == (Err(BestInFault::Room(1)), false));
+    Ok(())
+}
+
+#[test]
+fn a_generator_looks_at_the_lens_first(rt: HostRuntime) -> Result<(), Memory> {
+    let alloc = rt.alloc();
+    let fault = BestInFault::Lens(LensFault::Grain);
+    assert!(rt; told(alloc, 1, 7, 0)? == (Err(fault), false));
+    Ok(())
+}
+
+#[test]
+fn a_generator_looks_at_windows(rt: HostRuntime) -> Result<(), Memory> {
+    let alloc = rt.alloc();
+    for count in [4_u32, 5, 16] {
+        assert!(rt; told(alloc, 100, 60, count)? == (Ok(Some(5)), true));
+    }
     Ok(())
 }
