@@ -21,6 +21,7 @@ mod pairings;
 mod pairs;
 mod places;
 mod pricing;
+mod reach;
 mod relaxing;
 mod repairing;
 mod tested;
@@ -30,6 +31,7 @@ pub use guess::{Guess, Mixed, Part};
 pub use guide::Guide;
 pub use kept::are_known;
 pub use over::{heaviest_line_over, line_over};
+pub use reach::is_out_of_reach;
 pub use relaxing::Bounded;
 pub use tested::are_small;
 

@@ -35,11 +35,16 @@ fn best_from<L: Ledger>(
     requires name { blank.name ≡ L.name }
     requires parts { blank.parts ≡ L.parts }
     requires share { 0 < blank.parts }
-    ensures fault { (why : Why) → IsErrOf result (BestFault.Lens why) → IsLensFault problem.now member lens.now why }
-    ensures line { IfOk result (λ answer. IfSome answer (λ b. IsLensLine problem.now member goal.now node.now lens.now b.line)) }
-    ensures weight { IfOk result (λ answer. IfSome answer (λ b. weight_of weights.now b.line ≡ b.weight)) }
-    ensures most { IfOk result (λ answer. IfSome answer (λ b. IsMostWeight problem.now member goal.now node.now lens.now weights.now b.weight)) }
-    ensures none { IfOk result (λ answer. IfNone answer (HasNoLine problem.now member goal.now node.now lens.now)) }
+    ensures fault { (why : Why) → IsErrOf result (BestFault.Lens why)
+        → IsLensFault problem.now member lens.now why }
+    ensures line { IfOk result (λ answer. IfSome answer
+        (λ b. IsLensLine problem.now member goal.now node.now lens.now b.line)) }
+    ensures weight { IfOk result (λ answer. IfSome answer
+        (λ b. weight_of weights.now b.line ≡ b.weight)) }
+    ensures most { IfOk result (λ answer. IfSome answer
+        (λ b. IsMostWeight problem.now member goal.now node.now lens.now weights.now b.weight)) }
+    ensures none { IfOk result (λ answer. IfNone answer
+        (HasNoLine problem.now member goal.now node.now lens.now)) }
 {
     let mut steps: Steps<L> = Steps::new(blank);
     heaviest(
@@ -63,11 +68,16 @@ fn best_line(
     requires shape { IsLens problem.now member lens.now }
     requires per_pairing { length weights.now ≡ length problem.now.base.pairings }
     requires small { AreSmallWeights weights.now }
-    ensures fault { (why : Why) → IsErrOf result (BestFault.Lens why) → IsLensFault problem.now member lens.now why }
-    ensures line { IfOk result (λ answer. IfSome answer (λ b. IsLensLine problem.now member goal.now node.now lens.now b.line)) }
-    ensures weight { IfOk result (λ answer. IfSome answer (λ b. weight_of weights.now b.line ≡ b.weight)) }
-    ensures most { IfOk result (λ answer. IfSome answer (λ b. IsMostWeight problem.now member goal.now node.now lens.now weights.now b.weight)) }
-    ensures none { IfOk result (λ answer. IfNone answer (HasNoLine problem.now member goal.now node.now lens.now)) }
+    ensures fault { (why : Why) → IsErrOf result (BestFault.Lens why)
+        → IsLensFault problem.now member lens.now why }
+    ensures line { IfOk result (λ answer. IfSome answer
+        (λ b. IsLensLine problem.now member goal.now node.now lens.now b.line)) }
+    ensures weight { IfOk result (λ answer. IfSome answer
+        (λ b. weight_of weights.now b.line ≡ b.weight)) }
+    ensures most { IfOk result (λ answer. IfSome answer
+        (λ b. IsMostWeight problem.now member goal.now node.now lens.now weights.now b.weight)) }
+    ensures none { IfOk result (λ answer. IfNone answer
+        (HasNoLine problem.now member goal.now node.now lens.now)) }
 {
     best_from::<Brand>(
         alloc,
@@ -97,7 +107,9 @@ pub(crate) fn heaviest_line(
     requires shape { IsLens problem.now member lens.now }
     requires per_pairing { length weights.now ≡ length problem.now.base.pairings }
     requires small { AreSmallWeights weights.now }
-    ensures heaviest { IfOk result (λ answer. MatchOption answer (HasNoLine problem.now member goal.now node.now lens.now) (IsHeaviestLine problem.now member goal.now node.now lens.now weights.now)) }
+    ensures heaviest { IfOk result (λ answer. MatchOption answer
+        (HasNoLine problem.now member goal.now node.now lens.now)
+        (IsHeaviestLine problem.now member goal.now node.now lens.now weights.now)) }
 {
     match best_line(alloc, problem, member, goal, node, lens, weights) {
         Ok(Some(priced)) => Ok(Some(priced.line)),

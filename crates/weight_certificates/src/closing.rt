@@ -98,7 +98,8 @@ fn weights_leaf(
 ) -> Result<Option<Item>, Memory>
     requires goal { IsGoal problem.now goal.now }
     requires node { IsNode problem.now node.now }
-    ensures accepted { IfOk result (λ answer. IfSome answer (IsAccepted problem.now goal.now node.now)) }
+    ensures accepted { IfOk result (λ answer. IfSome answer
+        (IsAccepted problem.now goal.now node.now)) }
 {
     let lenses = bounded.lenses;
     let is_closed = is_outweighed(
@@ -128,7 +129,8 @@ fn lineless_leaf(
 ) -> Result<Option<Item>, Memory>
     requires goal { IsGoal problem.now goal.now }
     requires node { IsNode problem.now node.now }
-    ensures accepted { IfOk result (λ answer. IfSome answer (IsAccepted problem.now goal.now node.now)) }
+    ensures accepted { IfOk result (λ answer. IfSome answer
+        (IsAccepted problem.now goal.now node.now)) }
 {
     if is_lineless(alloc, problem, goal, node, member, &lens)? {
         Ok(Some(Item::NoLine(member, lens)))

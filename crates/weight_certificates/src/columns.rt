@@ -130,7 +130,9 @@ impl Columns {
 
     /// A round of the heaviest lines, where each member has a line.
     pub(crate) fn round(&self, alloc: Global, weights: &[i64]) -> Result<Option<Roster>, Memory>
-        ensures round { (problem : Month) (goal : Aim) (node : Sequence Decision) → AreColumns problem goal node self.now → IfOk result (λ answer. IfSome answer (IsRound problem goal node)) }
+        ensures round { (problem : Month) (goal : Aim) (node : Sequence Decision)
+            → AreColumns problem goal node self.now
+            → IfOk result (λ answer. IfSome answer (IsRound problem goal node)) }
     {
         let mut round = List::new(alloc);
         for member in 0..self.lists.len() {
@@ -146,7 +148,8 @@ impl Columns {
     /// Adds a line of a member.
     fn add_line(&mut self, member: usize, line: Line) -> Result<(), Memory>
         requires member { member < length self.old }
-        ensures added { OnOk result (self.new ≡ slice_set self.old member (lines_of self.old member ++ line ∷ [])) }
+        ensures added { OnOk result (self.new ≡ slice_set self.old member
+            (lines_of self.old member ++ line ∷ [])) }
     {
         append(self.lists.at_mut(member), line)
     }
@@ -154,7 +157,9 @@ impl Columns {
     /// Adds the lines of a round.
     pub(crate) fn add(&mut self, alloc: Global, round: &[Line]) -> Result<(), Memory>
         requires per_member { length round.now ≡ length self.old }
-        ensures columns { (problem : Month) (goal : Aim) (node : Sequence Decision) → AreColumns problem goal node self.old → IsRound problem goal node round.now → OnOk result (AreColumns problem goal node self.new) }
+        ensures columns { (problem : Month) (goal : Aim) (node : Sequence Decision)
+            → AreColumns problem goal node self.old → IsRound problem goal node round.now
+            → OnOk result (AreColumns problem goal node self.new) }
     {
         for (member, line) in round.iter().enumerate() {
             self.add_line(member, line.copy(alloc)?)?;

@@ -69,7 +69,8 @@ fn is_miscrewed(problem: &Problem, node: &Node, pairing: u32) -> bool
 
 /// The first pairing that cannot have its crew.
 pub(crate) fn miscrewed(problem: &Problem, node: &Node) -> Option<u32>
-    ensures first { MatchOption result (HaveCrews problem.now node.now) (IsMiscrewed problem.now node.now) }
+    ensures first { MatchOption result (HaveCrews problem.now node.now)
+        (IsMiscrewed problem.now node.now) }
 {
     for pairing in 0..problem.base.pairings.len() as u32 {
         if is_miscrewed(problem, node, pairing) {

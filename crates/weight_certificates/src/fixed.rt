@@ -110,8 +110,10 @@ fn is_misfit(
 ) -> Result<bool, Memory>
     requires goal { IsGoal problem.now goal.now }
     requires member { member < length problem.now.base.members }
-    ensures misfit { IfOk result (λ yes. IsTrue yes → IsMisfit problem.now goal.now node.now member) }
-    ensures fits { IfOk result (λ yes. yes ≡ false → IsFitting problem.now goal.now node.now member) }
+    ensures misfit { IfOk result (λ yes. IsTrue yes
+        → IsMisfit problem.now goal.now node.now member) }
+    ensures fits { IfOk result (λ yes. yes ≡ false
+        → IsFitting problem.now goal.now node.now member) }
 {
     if !is_decided_line(problem, node, member) {
         return Ok(false);
@@ -129,7 +131,8 @@ pub(crate) fn misfit(
     node: &Node,
 ) -> Result<Option<u32>, Memory>
     requires goal { IsGoal problem.now goal.now }
-    ensures first { IfOk result (λ found. MatchOption found (AreFitting problem.now goal.now node.now) (IsMisfit problem.now goal.now node.now)) }
+    ensures first { IfOk result (λ found. MatchOption found
+        (AreFitting problem.now goal.now node.now) (IsMisfit problem.now goal.now node.now)) }
 {
     for member in 0..problem.base.members.len() as u32 {
         if is_misfit(alloc, problem, goal, node, member)? {

@@ -16,7 +16,8 @@ fn is_open_pair(problem: &Problem, node: &Node, member: u32, pairing: u32) -> bo
 
 /// The first pairing that is not decided for the member.
 fn first_open_pairing(problem: &Problem, node: &Node, member: u32) -> Option<u32>
-    ensures first { MatchOption result (IsDecidedLine problem.now node.now member) (IsOpenFor problem.now node.now member) }
+    ensures first { MatchOption result (IsDecidedLine problem.now node.now member)
+        (IsOpenFor problem.now node.now member) }
 {
     for pairing in 0..problem.base.pairings.len() as u32 {
         if !node.is_decided(member, pairing) {
@@ -28,7 +29,8 @@ fn first_open_pairing(problem: &Problem, node: &Node, member: u32) -> Option<u32
 
 /// The first pair that is not decided.
 fn first_open_pair(problem: &Problem, node: &Node) -> Option<(u32, u32)>
-    ensures pair { MatchOption result (IsAllDecided problem.now node.now) (λ pair. IsOpenPair problem.now node.now pair.0 pair.1) }
+    ensures pair { MatchOption result (IsAllDecided problem.now node.now)
+        (λ pair. IsOpenPair problem.now node.now pair.0 pair.1) }
 {
     for member in 0..problem.base.members.len() as u32 {
         if let Some(pairing) = first_open_pairing(problem, node, member) {
@@ -44,7 +46,8 @@ pub(crate) fn branch_pair(
     node: &Node,
     preferred: Option<(u32, u32)>,
 ) -> Option<(u32, u32)>
-    ensures pair { MatchOption result (IsAllDecided problem.now node.now) (λ pair. IsOpenPair problem.now node.now pair.0 pair.1) }
+    ensures pair { MatchOption result (IsAllDecided problem.now node.now)
+        (λ pair. IsOpenPair problem.now node.now pair.0 pair.1) }
 {
     if let Some((member, pairing)) = preferred {
         if is_open_pair(problem, node, member, pairing) {

@@ -50,7 +50,8 @@ pub(crate) fn is_whole(
 ) -> Result<bool, Memory>
     requires goal { IsGoal problem.now goal.now }
     requires round { IsRound problem.now goal.now node.now round.now }
-    ensures whole { IfOk result (λ yes. IsTrue yes → IsWhole problem.now goal.now node.now round.now) }
+    ensures whole { IfOk result (λ yes. IsTrue yes
+        → IsWhole problem.now goal.now node.now round.now) }
 {
     if !all_meet(problem, goal, node, round) {
         return Ok(false);

@@ -95,7 +95,8 @@ fn priced_round(
     requires per_pairing { length weights.now ≡ length problem.now.base.pairings }
     requires small { AreSmallWeights weights.now }
     requires room { length miss.old ≡ length problem.now.base.pairings }
-    ensures next { IfOk result (IsNext problem.now goal.now node.now weights.now lenses.now miss.new) }
+    ensures next { IfOk result (IsNext problem.now goal.now node.now weights.now lenses.now
+        miss.new) }
     ensures columns { OnOk result (AreColumns problem.now goal.now node.now columns.new) }
 {
     let round = match heaviest_round(alloc, problem, goal, node, lenses, weights)? {
@@ -128,7 +129,8 @@ pub(crate) fn next_round(
     requires per_pairing { length weights.now ≡ length problem.now.base.pairings }
     requires small { AreSmallWeights weights.now }
     requires room { length miss.old ≡ length problem.now.base.pairings }
-    ensures next { IfOk result (IsNext problem.now goal.now node.now weights.now lenses.now miss.new) }
+    ensures next { IfOk result (IsNext problem.now goal.now node.now weights.now lenses.now
+        miss.new) }
     ensures columns { OnOk result (AreColumns problem.now goal.now node.now columns.new) }
 {
     if let Some(round) = columns.round(alloc, weights)? {
@@ -166,7 +168,8 @@ fn rounds_over(
     requires few_rounds { count ≤ 2000 }
     requires zero { weights.old ≡ replicate (length problem.now.base.pairings) (pos 0) }
     requires room { length miss.old ≡ length problem.now.base.pairings }
-    ensures ended { IfOk result (HasEnded problem.now goal.now node.now lenses.now count weights.new) }
+    ensures ended { IfOk result (HasEnded problem.now goal.now node.now lenses.now count
+        weights.new) }
     ensures columns { OnOk result (AreColumns problem.now goal.now node.now columns.new) }
 {
     let mut last = List::new(alloc);

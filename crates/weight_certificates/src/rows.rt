@@ -28,7 +28,8 @@ pub(crate) fn subtract(from: &mut [i64], row: &[i64])
     requires same { length from.old ≡ length row.now }
     requires from_small { AreWithin (2 ^ 40) from.old }
     requires row_small { AreWithin (2 ^ 40) row.now }
-    ensures less { (k : ℕ) → k < length from.old → weight_at from.new k ≡ weight_at from.old k -ℤ weight_at row.now k }
+    ensures less { (k : ℕ) → k < length from.old
+        → weight_at from.new k ≡ weight_at from.old k -ℤ weight_at row.now k }
 {
     for (k, x) in row.iter().enumerate() {
         from[k] -= *x;
@@ -40,7 +41,8 @@ fn count_line(counts: &mut [i64], line: &Line)
     requires in_range { All (λ p. p < length counts.old) line.now }
     requires few { length counts.old ≤ 600 }
     requires small { AreWithin (2 ^ 40) counts.old }
-    ensures more { (k : ℕ) → k < length counts.old → weight_at counts.new k ≡ weight_at counts.old k +ℤ pos (cond (is_flown line.now k) 1 0) }
+    ensures more { (k : ℕ) → k < length counts.old
+        → weight_at counts.new k ≡ weight_at counts.old k +ℤ pos (cond (is_flown line.now k) 1 0) }
 {
     for p in line.pairings() {
         counts[*p as usize] += 1;
@@ -52,7 +54,8 @@ pub(crate) fn set_miss(row: &mut [i64], problem: &Problem, round: &[Line])
     requires per_pairing { length row.old ≡ length problem.now.base.pairings }
     requires per_member { length round.now ≡ length problem.now.base.members }
     requires in_range { All (All (λ p. p < length problem.now.base.pairings)) round.now }
-    ensures miss { (p : ℕ) → p < length problem.now.base.pairings → weight_at row.new p ≡ miss_of problem.now round.now p }
+    ensures miss { (p : ℕ) → p < length problem.now.base.pairings
+        → weight_at row.new p ≡ miss_of problem.now round.now p }
     ensures within { AreWithin 200 row.new }
 {
     for p in 0..problem.base.pairings.len() as u32 {

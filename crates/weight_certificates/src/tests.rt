@@ -289,7 +289,8 @@ fn month(
     requires members { (h : Month) → AreMembers h members }
     requires lists { length bids ≡ length members }
     requires few_bids { All (λ list. length list ≤ 64) bids }
-    requires each_bid { (h : Month) → 30 ≤ month_days h → All (All (IsBid h (length pairings))) bids }
+    requires each_bid { (h : Month) → 30 ≤ month_days h
+        → All (All (IsBid h (length pairings))) bids }
     ensures members { IfOk result (λ p. length p.base.members ≡ length members) }
     ensures pairings { IfOk result (λ p. length p.base.pairings ≡ length pairings) }
 {

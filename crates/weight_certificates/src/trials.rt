@@ -10,12 +10,13 @@ use crate::lists::append;
 use crate::rows::{product, set_miss};
 use duty_calendar::{List, Memory};
 use line_generator::{BestFault, Over};
-use node_guesses::{are_small, heaviest_line_over, line_over};
+use line_lens::check_lens;
+use node_guesses::{are_small, heaviest_line_over, is_out_of_reach, line_over};
 use roster_model::{Goal, Lens, Line, Node, Problem, Roster};
 use std::alloc::Global;
 
 /// How many steps a search for a line may take.
-const MOST_STEPS: u64 = 2_000_000;
+const MOST_STEPS: u64 = 50_000_000;
 
 /// The weight in 32 bits.
 fn narrow(weight: i64) -> i32
@@ -54,7 +55,8 @@ fn heaviest_above(
     requires node { IsNode problem.now node.now }
     requires per_pairing { length weights.now ≡ length problem.now.base.pairings }
     requires small { AreSmallWeights weights.now }
-    ensures heaviest { IfOk result (λ answer. IfSome answer (IsShapedHeaviest problem.now member goal.now node.now lens.now weights.now)) }
+    ensures heaviest { IfOk result (λ answer. IfSome answer
+        (IsShapedHeaviest problem.now member goal.now node.now lens.now weights.now)) }
 {
     if lens.windows.len() > 16 {
         return Ok(None);
@@ -84,8 +86,11 @@ fn heaviest_lines(
     requires per_member { length lenses.now ≡ length problem.now.base.members }
     requires per_pairing { length weights.now ≡ length problem.now.base.pairings }
     requires small { AreSmallWeights weights.now }
-    ensures heaviest { IfOk result (λ answer. IfSome answer (AreHeaviest problem.now goal.now node.now weights.now lenses.now (length problem.now.base.members))) }
-    ensures shapes { IfOk result (λ answer. IfSome answer (λ round. AreLenses problem.now lenses.now)) }
+    ensures heaviest { IfOk result (λ answer. IfSome answer
+        (AreHeaviest problem.now goal.now node.now weights.now lenses.now
+        (length problem.now.base.members))) }
+    ensures shapes { IfOk result (λ answer. IfSome answer
+        (λ round. AreLenses problem.now lenses.now)) }
 {
     let mut round = List::new(alloc);
     for (member, lens) in lenses.iter().enumerate() {
@@ -116,10 +121,12 @@ fn falls_short(
     requires per_member { length lenses.now ≡ length problem.now.base.members }
     requires per_pairing { length weights.now ≡ length problem.now.base.pairings }
     requires small { AreSmallWeights weights.now }
-    requires heaviest { AreHeaviest problem.now goal.now node.now weights.now lenses.now (length problem.now.base.members) round.now }
+    requires heaviest { AreHeaviest problem.now goal.now node.now weights.now lenses.now
+        (length problem.now.base.members) round.now }
     requires shapes { AreLenses problem.now lenses.now }
     requires room { length miss.old ≡ length problem.now.base.pairings }
-    ensures outweighed { IsTrue result → IsOutweighed problem.now goal.now node.now weights.now lenses.now }
+    ensures outweighed { IsTrue result → IsOutweighed problem.now goal.now node.now weights.now
+        lenses.now }
 {
     let _ = goal;
     let _ = node;
@@ -144,7 +151,8 @@ pub(crate) fn is_outweighed(
 ) -> Result<bool, Memory>
     requires goal { IsGoal problem.now goal.now }
     requires node { IsNode problem.now node.now }
-    ensures outweighed { IfOk result (λ yes. IsTrue yes → IsOutweighed problem.now goal.now node.now weights.now lenses.now) }
+    ensures outweighed { IfOk result (λ yes. IsTrue yes
+        → IsOutweighed problem.now goal.now node.now weights.now lenses.now) }
 {
     let pairings = problem.base.pairings.len();
     if weights.len() != pairings || lenses.len() != problem.base.members.len() {
@@ -171,10 +179,17 @@ pub(crate) fn is_lineless(
 ) -> Result<bool, Memory>
     requires goal { IsGoal problem.now goal.now }
     requires node { IsNode problem.now node.now }
-    ensures lineless { IfOk result (λ yes. IsTrue yes → IsLineless problem.now goal.now node.now member lens.now) }
+    ensures lineless { IfOk result (λ yes. IsTrue yes
+        → IsLineless problem.now goal.now node.now member lens.now) }
 {
     if member as usize >= problem.base.members.len() || lens.windows.len() > 16 {
         return Ok(false);
+    }
+    if let Err(_why) = check_lens(problem, member, lens) {
+        return Ok(false);
+    }
+    if is_out_of_reach(problem, member, goal) {
+        return Ok(true);
     }
     let weights = vec![in alloc; 0i64; problem.base.pairings.len()]?;
     match line_over(

@@ -1,4 +1,4 @@
-use Rattle.std.proofs.Common.{◌≡◌, ◌∙◌, ℕ, List, length, ap, Ok, arith, pos, rules}
+use Rattle.std.proofs.Common.{◌≡◌, ◌∙◌, ℕ, List, length, ap, refl, Ok, arith, pos, rules}
 use Rattle.std.specs.Prelude.{ℤ, replicate}
 use Rattle.line_generator.specs.declared.above.Over.{Over}
 use Rattle.weight_certificates.proofs.Raised.{none_above, zeros_at}
@@ -19,3 +19,14 @@ returns-in-Ok-Nothing c =
                 (c.in-Ok-Nothing.ensures.none (ap (λ (answer : Over). Ok answer) c.in-Ok-Nothing.field-0-is));
           };
     }
+
+pub returns-then-is_out_of_reach : goal.returns-then-is_out_of_reach
+returns-then-is_out_of_reach c = record {
+  lineless =
+      λ yes.
+      record {
+        in_range = omega arith;
+        shape = c.in_default.ensures.shape;
+        none = c.if-is_out_of_reach.ensures.none refl c.args.node.now c.args.lens.now;
+      };
+}
