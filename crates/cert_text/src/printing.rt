@@ -392,7 +392,7 @@ fn put_lines(out: &mut List<u8>, certificate: &Certificate) -> Result<(), Memory
 /// limits.
 pub fn print_certificate(alloc: Global, certificate: &Certificate) -> Result<List<u8>, Memory>
     requires short { is_short_certificate certificate.now ≡ true }
-    ensures text { IfOk result (λ text. text ≡ certificate_text certificate.now) }
+    ensures whole { IfOk result (λ text. text ≡ certificate_text certificate.now) }
     ensures again { is_certificate certificate.now ≡ true
         → OnOk result (certificate_in (certificate_text certificate.now) ≡ Ok certificate.now) }
 {

@@ -25,7 +25,8 @@ pub fn award_month(alloc: Global, problem: &Problem, nodes: u32) -> Result<Month
     requires few_nodes { nodes ≤ 20000 }
     ensures outcome { IfOk result (IsMonthAward problem.now nodes) }
     ensures seniority { IfOk result (GivesGreatestScores problem.now) }
-    ensures enough { most_searches problem.now * 2 ^ pairs_of problem.now < nodes → IfOk result IsNotBudget }
+    ensures enough { most_searches problem.now * 2 ^ pairs_of problem.now < nodes
+        → IfOk result IsNotBudget }
 {
     let mut closer = Rounds::new(alloc, problem, ROUNDS)?;
     let mut ledger = Ledger::new(alloc, nodes, ROUNDS)?;

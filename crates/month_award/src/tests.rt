@@ -175,7 +175,8 @@ fn first_pairing(alloc: Global) -> Result<List<Bid>, Memory>
 
 /// The bids to fly the first pairing and to fly the second, of one weight.
 fn either_pairing(alloc: Global) -> Result<List<Bid>, Memory>
-    ensures bids { IfOk result (λ list. list ≡ record { weight = 10; wish = Fly 0 } ∷ record { weight = 10; wish = Fly 1 } ∷ []) }
+    ensures bids { IfOk result (λ list. list ≡ record { weight = 10; wish = Fly 0 } ∷ record
+        { weight = 10; wish = Fly 1 } ∷ []) }
 {
     let bid = Bid {
         weight: 10,

@@ -55,8 +55,10 @@ fn add_reasons(
     requires bids { All (λ d. IsBidOf problem.now d.bid) reasons.now }
     requires places { All (λ d. place_of d.cause ≤ length problem.now.base.members) reasons.now }
     requires few { length reasons.now ≤ most_reasons }
-    ensures drafts { OnOk result (drafts.new ≡ drafts.old ++ reasons_draft problem.now reasons.now ∷ []) }
-    ensures fits { OnOk result (length (reasons_text problem.now reasons.now) ≤ limit_of ReasonsFile) }
+    ensures drafts { OnOk result (drafts.new ≡ drafts.old ++ reasons_draft problem.now reasons.now
+        ∷ []) }
+    ensures fits { OnOk result (length (reasons_text problem.now reasons.now)
+        ≤ limit_of ReasonsFile) }
 {
     let bytes = print_reasons(alloc, problem, reasons)?;
     let draft = Draft {
@@ -77,7 +79,8 @@ fn add_roster(
     roster: &Roster,
 ) -> Result<(), Memory>
     requires complete { IsComplete problem.now roster.now }
-    ensures drafts { OnOk result (drafts.new ≡ drafts.old ++ roster_draft problem.now roster.now ∷ []) }
+    ensures drafts { OnOk result (drafts.new ≡ drafts.old ++ roster_draft problem.now roster.now
+        ∷ []) }
     ensures readable { OnOk result (IsReadableRoster problem.now roster.now) }
 {
     let bytes = print_roster(alloc, problem, roster)?;
@@ -154,7 +157,8 @@ fn write_found<S: Shelf>(
     finding: Finding,
 ) -> Result<Finding, AwardStop>
     ensures cause { AwardCause (S.tally shelf.old) (S.tally shelf.new) result }
-    ensures told { (files : Files) (nodes : ℕ) → IsFound files nodes finding → IsAward files nodes result }
+    ensures told { (files : Files) (nodes : ℕ) → IsFound files nodes finding
+        → IsAward files nodes result }
     ensures left { Leaves (S.holds shelf.old) (S.holds shelf.new) (award_written result) }
     ensures handed { (old : Entries) (nodes : ℕ) → FromTexts old (S.log shelf.old) (λ files. IsFound files nodes finding)
         → IsAwardHanded old (S.log shelf.new) nodes result }

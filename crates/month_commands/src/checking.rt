@@ -49,7 +49,8 @@ fn read_given<S: Shelf>(alloc: Global, shelf: &mut S) -> Result<(Texts, Vec<u8>)
 #[tactic(auto, unfolding(crate::specs::Check::claimed_in))]
 fn read_claimed<S: Shelf>(alloc: Global, shelf: &mut S) -> Result<(Vec<u8>, Vec<u8>), Unread>
     ensures cause { HasCause (S.tally shelf.old) (S.tally shelf.new) result }
-    ensures told { ForSome (S.holds shelf.old) (λ files. Finds view_claimed result (claimed_in files)) }
+    ensures told { ForSome (S.holds shelf.old)
+        (λ files. Finds view_claimed result (claimed_in files)) }
     ensures brief { IfOk result (λ x. IsBrief (view_claimed x)) }
     ensures kept { S.holds shelf.new ≡ S.holds shelf.old }
     ensures logged { IfOk result

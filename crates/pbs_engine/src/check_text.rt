@@ -98,7 +98,8 @@ fn put_item_fault(out: &mut List<u8>, why: ItemFault) -> Result<(), Memory>
 
 /// The line of an item's fault.
 fn item_line(alloc: Global, search: u32, at: u32, why: ItemFault) -> Result<List<u8>, Memory>
-    ensures value { IfOk result (λ t. t ≡ line (codes "no" ++ numbers (4 ∷ (search + 1) ∷ (at + 1) ∷ []) ++ item_text why)) }
+    ensures value { IfOk result (λ t. t ≡ line
+        (codes "no" ++ numbers (4 ∷ (search + 1) ∷ (at + 1) ∷ []) ++ item_text why)) }
 {
     let mut out = List::new(alloc);
     put_bytes(&mut out, b"no")?;
@@ -110,7 +111,8 @@ fn item_line(alloc: Global, search: u32, at: u32, why: ItemFault) -> Result<List
 
 /// The line of an illegal line.
 fn member_line(alloc: Global, member: u32, why: Illegal) -> Result<List<u8>, Memory>
-    ensures value { IfOk result (λ t. t ≡ line_of (codes "no") (1 ∷ (member + 1) ∷ illegal_numbers why)) }
+    ensures value { IfOk result (λ t. t ≡ line_of (codes "no")
+        (1 ∷ (member + 1) ∷ illegal_numbers why)) }
 {
     let [code, place] = illegal_numbers(why);
     numbered(alloc, b"no", &[1, u64::from(member) + 1, code, place])
@@ -172,7 +174,8 @@ fn refusal_line(alloc: Global, why: &Refusal) -> Result<List<u8>, Memory>
 
 /// The lines of an accepted award.
 fn award_text(alloc: Global, scores: &List<u32>) -> Result<List<u8>, Memory>
-    ensures value { IfOk result (λ t. t ≡ line (codes "yes") ++ line_of (codes "vector") scores.now) }
+    ensures value { IfOk result (λ t. t ≡ line (codes "yes") ++ line_of
+        (codes "vector") scores.now) }
 {
     let mut out = line_text(alloc, b"yes")?;
     put_vector(&mut out, scores.as_slice())?;

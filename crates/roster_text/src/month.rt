@@ -250,7 +250,7 @@ pub fn print_month(
     requires lines { length roster.now ≡ length problem.now.base.members }
     requires in_range { All (All (λ p. p < length problem.now.base.pairings)) roster.now }
     requires member { member < length problem.now.base.members }
-    ensures text { IfOk result (λ text. text ≡ month_text problem.now roster.now member) }
+    ensures whole { IfOk result (λ text. text ≡ month_text problem.now roster.now member) }
     ensures order { IsListedInTime problem.now member (line_at roster.now member) }
 {
     let mut out = List::new(alloc);

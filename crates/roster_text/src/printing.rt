@@ -120,7 +120,7 @@ fn put_roster(out: &mut List<u8>, problem: &Problem, roster: &Roster) -> Result<
     requires lines { length roster.now ≡ length problem.now.base.members }
     requires in_range { All (All (λ p. p < length problem.now.base.pairings)) roster.now }
     ensures whole { OnOk result (out.new ≡ out.old ++ roster_text problem.now roster.now) }
-    ensures form { IsRoster problem.now roster.now }
+    ensures valid { IsRoster problem.now roster.now }
 {
     lines_ascend(roster);
     put_bytes(out, b"member,pairings,credit,score\n")?;
@@ -131,8 +131,8 @@ fn put_roster(out: &mut List<u8>, problem: &Problem, roster: &Roster) -> Result<
 pub fn print_roster(alloc: Global, problem: &Problem, roster: &Roster) -> Result<List<u8>, Memory>
     requires lines { length roster.now ≡ length problem.now.base.members }
     requires in_range { All (All (λ p. p < length problem.now.base.pairings)) roster.now }
-    ensures text { IfOk result (λ text. text ≡ roster_text problem.now roster.now) }
-    ensures form { IsRoster problem.now roster.now }
+    ensures whole { IfOk result (λ text. text ≡ roster_text problem.now roster.now) }
+    ensures valid { IsRoster problem.now roster.now }
     ensures again { IfOk result (λ text.
         (r : Lines) → IsTextOf problem.now text r → r ≡ roster.now) }
     ensures short { IfOk result (λ text. length text ≤ longest_text) }

@@ -149,7 +149,7 @@ fn whole_of(alloc: Global, problem: &Problem, text: &[u8]) -> Result<Roster, Ros
 /// The roster of a text, or the first row at which the text differs from all rosters' texts.
 pub fn read_roster(alloc: Global, text: &[u8], problem: &Problem) -> Result<Roster, RosterTextFault>
     ensures read { IfOk result (λ roster. roster_text problem.now roster ≡ text.now) }
-    ensures form { IfOk result (IsRoster problem.now) }
+    ensures valid { IfOk result (IsRoster problem.now) }
     ensures fault { IfErr result (λ fault. fault ≢ no_memory
         → HasFault problem.now text.now fault) }
     ensures only { (r : Lines) → IsTextOf problem.now text.now r → Answers result (Ok r) }

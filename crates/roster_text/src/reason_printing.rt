@@ -82,7 +82,7 @@ pub fn print_reasons(
 ) -> Result<List<u8>, Memory>
     requires bids { All (λ d. IsBidOf problem.now d.bid) reasons.now }
     requires places { All (λ d. place_of d.cause ≤ length problem.now.base.members) reasons.now }
-    ensures text { IfOk result (λ text. text ≡ reasons_text problem.now reasons.now) }
+    ensures whole { IfOk result (λ text. text ≡ reasons_text problem.now reasons.now) }
     ensures again { IfOk result (λ text.
         (r : Listed) → IsReasonsText problem.now text r → r ≡ reasons.now) }
     ensures short { length reasons.now ≤ most_reasons

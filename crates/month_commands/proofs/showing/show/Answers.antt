@@ -34,24 +34,24 @@ pub returns-in_default-clause-told : goal.returns-in_default-clause-told
 returns-in_default-clause-told g c = λ files told.
     ends_at_nobody files c.args.name.now (view_seen (c.in_ok-texts.texts, c.in_ok-texts.text)) (c.in_ok-texts.ensures.told files told)
     c.in_ok-problem.problem c.in_ok-problem.ensures.month
-    c.in_ok-roster.roster (c.in_ok-roster.ensures.form, sym (c.in_ok-roster.ensures.read ∙ c.deref.ensures.value)) (sym c.in_default.ensures.value)
+    c.in_ok-roster.roster (c.in_ok-roster.ensures.valid, sym (c.in_ok-roster.ensures.read ∙ c.deref.ensures.value)) (sym c.in_default.ensures.value)
 
 pub returns-in_default-clause-handed : goal.returns-in_default-clause-handed
 returns-in_default-clause-handed g c =
     handed_nobody _ _ c.args.name.now (view_seen (c.in_ok-texts.texts, c.in_ok-texts.text)) c.in_ok-texts.ensures.logged c.in_ok-texts.ensures.short c.in_ok-texts.ensures.limit
     c.in_ok-problem.problem c.in_ok-problem.ensures.month
-    c.in_ok-roster.roster (c.in_ok-roster.ensures.form, sym (c.in_ok-roster.ensures.read ∙ c.deref.ensures.value)) (sym c.in_default.ensures.value)
+    c.in_ok-roster.roster (c.in_ok-roster.ensures.valid, sym (c.in_ok-roster.ensures.read ∙ c.deref.ensures.value)) (sym c.in_default.ensures.value)
 
 pub returns-clause-told : goal.returns-clause-told
 returns-clause-told g c = λ files told.
     ends_in_view files c.args.name.now (view_seen (c.in_ok-texts.texts, c.in_ok-texts.text)) (c.in_ok-texts.ensures.told files told)
     c.in_ok-problem.problem c.in_ok-problem.ensures.month
-    c.in_ok-roster.roster (c.in_ok-roster.ensures.form, sym (c.in_ok-roster.ensures.read ∙ c.deref.ensures.value))
-    c.in-Some.member c.in_ok-print_month.field-0 (sym c.in-Some.ensures.value) c.in_ok-print_month.ensures.text
+    c.in_ok-roster.roster (c.in_ok-roster.ensures.valid, sym (c.in_ok-roster.ensures.read ∙ c.deref.ensures.value))
+    c.in-Some.member c.in_ok-print_month.field-0 (sym c.in-Some.ensures.value) c.in_ok-print_month.ensures.whole
 
 pub returns-clause-handed : goal.returns-clause-handed
 returns-clause-handed g c =
     handed_view _ _ c.args.name.now (view_seen (c.in_ok-texts.texts, c.in_ok-texts.text)) c.in_ok-texts.ensures.logged c.in_ok-texts.ensures.short c.in_ok-texts.ensures.limit
     c.in_ok-problem.problem c.in_ok-problem.ensures.month
-    c.in_ok-roster.roster (c.in_ok-roster.ensures.form, sym (c.in_ok-roster.ensures.read ∙ c.deref.ensures.value))
-    c.in-Some.member c.in_ok-print_month.field-0 (sym c.in-Some.ensures.value) c.in_ok-print_month.ensures.text
+    c.in_ok-roster.roster (c.in_ok-roster.ensures.valid, sym (c.in_ok-roster.ensures.read ∙ c.deref.ensures.value))
+    c.in-Some.member c.in_ok-print_month.field-0 (sym c.in-Some.ensures.value) c.in_ok-print_month.ensures.whole

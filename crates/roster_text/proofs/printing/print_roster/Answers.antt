@@ -8,10 +8,10 @@ pub returns-clause-again : goal.returns-clause-again
 returns-clause-again c = λ r good.
     let whole : c.put_roster.new.out ≡ roster_text c.args.problem.now c.args.roster.now =
     c.in_ok-put_roster.ensures.whole ∙ ap (λ (t : List ℕ). t ++ roster_text c.args.problem.now c.args.roster.now) c.new-out.ensures in
-    one_roster c.args.problem.now c.put_roster.new.out r c.args.roster.now good (c.put_roster.ensures.form, whole)
+    one_roster c.args.problem.now c.put_roster.new.out r c.args.roster.now good (c.put_roster.ensures.valid, whole)
 
 pub returns-clause-short : goal.returns-clause-short
 returns-clause-short c =
     let whole : c.put_roster.new.out ≡ roster_text c.args.problem.now c.args.roster.now =
     c.in_ok-put_roster.ensures.whole ∙ ap (λ (t : List ℕ). t ++ roster_text c.args.problem.now c.args.roster.now) c.new-out.ensures in
-    subst (λ (t : List ℕ). length t ≤ longest_text) (sym whole) (text_short c.args.problem.now c.args.roster.now c.put_roster.ensures.form)
+    subst (λ (t : List ℕ). length t ≤ longest_text) (sym whole) (text_short c.args.problem.now c.args.roster.now c.put_roster.ensures.valid)

@@ -4,8 +4,8 @@ use Rattle.roster_text.proofs.reading.read_roster.Goals as goal
 pub returns-clause-read : goal.returns-clause-read
 returns-clause-read c = is_read c.args.problem.now c.args.text.now c.whole_of.result c.whole_of.ensures.read
 
-pub returns-clause-form : goal.returns-clause-form
-returns-clause-form c = is_form c.args.problem.now c.args.text.now c.whole_of.result c.whole_of.ensures.read
+pub returns-clause-valid : goal.returns-clause-valid
+returns-clause-valid c = is_form c.args.problem.now c.args.text.now c.whole_of.result c.whole_of.ensures.read
 
 pub returns-clause-fault : goal.returns-clause-fault
 returns-clause-fault c = is_fault c.args.problem.now c.args.text.now c.whole_of.result c.whole_of.ensures.read
