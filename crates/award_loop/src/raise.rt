@@ -39,8 +39,10 @@ pub(crate) fn raise<C: Closer>(
     requires greatest { AreGreatest problem.now before.now }
     requires has { HasScores problem.now before.now best.old }
     ensures raised { IfOk result (IsRaised problem.now before.now ledger.old ledger.new best.new) }
-    ensures adds { AddsSearches problem.now (IsGoalBehind problem.now before.now) ledger.old ledger.new }
-    ensures takes { TakesSearches problem.now (bids_weight problem.now (length before.now) + 1) ledger.old ledger.new }
+    ensures adds { AddsSearches problem.now (IsGoalBehind problem.now before.now) ledger.old
+        ledger.new }
+    ensures takes { TakesSearches problem.now
+        (bids_weight problem.now (length before.now) + 1) ledger.old ledger.new }
     ensures rounds { C.rounds closer.new ≡ C.rounds closer.old }
     ensures fits { (other : Problem) → C.fits closer.new other ↔ C.fits closer.old other }
 {

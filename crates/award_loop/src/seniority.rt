@@ -95,7 +95,8 @@ fn climb<C: Closer>(
     requires greatest { AreGreatest problem.now (take first (scores_of problem.now roster)) }
     ensures outcome { IfOk result (IsOutcomeFrom problem.now roster first ledger.new) }
     ensures adds { AddsSearches problem.now (IsLaterGoal problem.now first) ledger.old ledger.new }
-    ensures takes { TakesPlaces problem.now first (length problem.now.base.members) ledger.old ledger.new }
+    ensures takes { TakesPlaces problem.now first
+        (length problem.now.base.members) ledger.old ledger.new }
     ensures short { IfOk result (HasFewSplits ledger.old ledger.new) }
     ensures rounds { C.rounds closer.new ≡ C.rounds closer.old }
     ensures fits { (other : Problem) → C.fits closer.new other ↔ C.fits closer.old other }

@@ -59,8 +59,10 @@ impl Closer for Idle {
 
 /// Whether the first member is to have a score.
 fn asks_for_score(goal: &Goal) -> bool
-    ensures some { IsTrue result → (floor : ℕ) × (slice_get goal.now.floors 0 ≡ Some floor) × (1 ≤ floor) }
-    ensures none { (result ≡ false) → (floor : ℕ) → slice_get goal.now.floors 0 ≡ Some floor → floor ≡ 0 }
+    ensures some { IsTrue result → (floor : ℕ) × (slice_get goal.now.floors 0 ≡ Some floor)
+        × (1 ≤ floor) }
+    ensures none { (result ≡ false) → (floor : ℕ) → slice_get goal.now.floors 0 ≡ Some floor
+        → floor ≡ 0 }
 {
     match goal.floors.as_slice().first() {
         Some(floor) => *floor > 0,

@@ -17,7 +17,8 @@ fn fixed_credit(events: &[Event]) -> u32
 
 fn credit_at(problem: &Problem, number: u32) -> u32
     requires known { number < length problem.now.base.pairings }
-    ensures { result ≡ option_map_or (λ p. p.credit) (slice_get problem.now.base.pairings number) 0 }
+    ensures { result ≡ option_map_or (λ p. p.credit)
+        (slice_get problem.now.base.pairings number) 0 }
 {
     let pairings = problem.base.pairings.as_slice();
     pairings[number as usize].credit
@@ -25,8 +26,10 @@ fn credit_at(problem: &Problem, number: u32) -> u32
 
 fn line_credit(problem: &Problem, line: &[u32]) -> u32
     requires known { All (λ p. p < length problem.now.base.pairings) line.now }
-    requires room { sum_by (λ n. option_map_or (λ p. p.credit) (slice_get problem.now.base.pairings n) 0) line.now < 2 ^ 32 }
-    ensures { result ≡ sum_by (λ n. option_map_or (λ p. p.credit) (slice_get problem.now.base.pairings n) 0) line.now }
+    requires room { sum_by (λ n. option_map_or (λ p. p.credit)
+        (slice_get problem.now.base.pairings n) 0) line.now < 2 ^ 32 }
+    ensures { result ≡ sum_by (λ n. option_map_or (λ p. p.credit)
+        (slice_get problem.now.base.pairings n) 0) line.now }
 {
     line.iter().map(|number| credit_at(problem, *number)).sum()
 }

@@ -30,7 +30,8 @@ fn is_duty(kind: Kind) -> bool
 }
 
 fn is_fixed_in(first: u32, last: u32, event: &Event) -> bool
-    ensures { result ≡ (is_duty event.now.kind && is_touching_days first last (event_span event.now)) }
+    ensures { result ≡ (is_duty event.now.kind && is_touching_days first last
+        (event_span event.now)) }
 {
     let span = Interval {
         start: event.report,
@@ -40,14 +41,16 @@ fn is_fixed_in(first: u32, last: u32, event: &Event) -> bool
 }
 
 fn some_fixed_in(events: &[Event], first: u32, last: u32) -> bool
-    ensures { result ≡ list_any (λ e. is_duty e.kind && is_touching_days first last (event_span e)) events.now }
+    ensures { result ≡ list_any (λ e. is_duty e.kind && is_touching_days first last (event_span e))
+        events.now }
 {
     events.iter().any(|event| is_fixed_in(first, last, event))
 }
 
 fn is_flown_in(problem: &Problem, first: u32, last: u32, number: u32) -> bool
     requires known { number < length problem.now.base.pairings }
-    ensures { result ≡ option_map_or (λ p. is_touching_days first last (pairing_span p)) (slice_get problem.now.base.pairings number) false }
+    ensures { result ≡ option_map_or (λ p. is_touching_days first last (pairing_span p))
+        (slice_get problem.now.base.pairings number) false }
 {
     let pairings = problem.base.pairings.as_slice();
     is_touching(first, last, pairing_span(&pairings[number as usize]))
@@ -55,7 +58,9 @@ fn is_flown_in(problem: &Problem, first: u32, last: u32, number: u32) -> bool
 
 fn some_flown_in(problem: &Problem, line: &[u32], first: u32, last: u32) -> bool
     requires known { All (λ p. p < length problem.now.base.pairings) line.now }
-    ensures { result ≡ list_any (λ n. option_map_or (λ p. is_touching_days first last (pairing_span p)) (slice_get problem.now.base.pairings n) false) line.now }
+    ensures { result ≡ list_any (λ n. option_map_or
+        (λ p. is_touching_days first last (pairing_span p))
+        (slice_get problem.now.base.pairings n) false) line.now }
 {
     line.iter()
         .any(|number| is_flown_in(problem, first, last, *number))
@@ -66,7 +71,8 @@ fn some_flown_in(problem: &Problem, line: &[u32], first: u32, last: u32) -> bool
 pub fn is_free(problem: &Problem, member: u32, line: &[u32], first: u32, last: u32) -> bool
     requires member { member < length problem.now.base.members }
     requires known { All (λ p. p < length problem.now.base.pairings) line.now }
-    ensures { result ≡ not (list_any (is_touching_days first last) (busy problem.now member line.now)) }
+    ensures { result ≡ not (list_any (is_touching_days first last)
+        (busy problem.now member line.now)) }
 {
     if some_fixed_in(fixed_of(problem, member), first, last) {
         return false;

@@ -76,7 +76,8 @@ fn worth(problem: &Problem, member: u32, line: &[u32], bid: &Bid) -> u32
     requires member { member < length problem.now.base.members }
     requires known { All (λ p. p < length problem.now.base.pairings) line.now }
     requires room { credit_of problem.now member line.now < 2 ^ 32 }
-    ensures { result ≡ (if is_granting problem.now member line.now bid.now.wish then bid.now.weight else 0) }
+    ensures { result ≡ (if is_granting problem.now member line.now bid.now.wish then bid.now.weight
+        else 0) }
 {
     if grants(problem, member, line, &bid.wish) {
         bid.weight
@@ -89,8 +90,10 @@ fn total_worth(problem: &Problem, member: u32, line: &[u32], bids: &[Bid]) -> u3
     requires member { member < length problem.now.base.members }
     requires known { All (λ p. p < length problem.now.base.pairings) line.now }
     requires room { credit_of problem.now member line.now < 2 ^ 32 }
-    requires fits { sum_by (λ b. if is_granting problem.now member line.now b.wish then b.weight else 0) bids.now < 2 ^ 32 }
-    ensures { result ≡ sum_by (λ b. if is_granting problem.now member line.now b.wish then b.weight else 0) bids.now }
+    requires fits { sum_by (λ b. if is_granting problem.now member line.now b.wish then b.weight
+        else 0) bids.now < 2 ^ 32 }
+    ensures { result ≡ sum_by (λ b. if is_granting problem.now member line.now b.wish then b.weight
+        else 0) bids.now }
 {
     bids.iter()
         .map(|bid| worth(problem, member, line, bid))

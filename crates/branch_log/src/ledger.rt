@@ -33,7 +33,8 @@ impl Ledger {
     /// A ledger without searches and entries. It has memory for `cap` entries from the start; an entry's node is one
     /// that `rounds` rounds show to be open.
     pub fn new(alloc: Global, cap: u32, rounds: u32) -> Result<Ledger, Memory>
-        ensures empty { IfOk result (λ l. l ≡ record { cap = cap; rounds = rounds; goals = []; entries = [] }) }
+        ensures empty { IfOk result (λ l. l ≡ record
+            { cap = cap; rounds = rounds; goals = []; entries = [] }) }
     {
         Ok(Ledger {
             cap,
@@ -47,7 +48,8 @@ impl Ledger {
     pub fn start(&mut self, goal: Goal) -> Result<u32, Goal>
         requires room { length self.old.goals < 4294967295 }
         ensures number { IfOk result (λ number. number ≡ length self.old.goals) }
-        ensures ok { OnOk result (self.new ≡ record self.old { goals = self.old.goals ++ goal ∷ [] }) }
+        ensures ok { OnOk result (self.new ≡ record self.old
+            { goals = self.old.goals ++ goal ∷ [] }) }
         ensures err { OnErr result (self.new ≡ self.old) }
         ensures back { IfErr result (λ given. given ≡ goal) }
     {
@@ -62,7 +64,8 @@ impl Ledger {
     pub fn count(&mut self, problem: &Problem, entry: Entry) -> u32
         requires room { length self.old.entries < self.old.cap }
         requires orderly { IsOrderly problem.now self.old }
-        requires next { MayFollow problem.now self.old.rounds self.old.goals self.old.entries entry }
+        requires next { MayFollow problem.now self.old.rounds self.old.goals self.old.entries
+            entry }
         ensures place { result ≡ length self.old.entries }
         ensures added { self.new ≡ record self.old { entries = entry ∷ self.old.entries } }
     {

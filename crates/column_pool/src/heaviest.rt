@@ -42,7 +42,8 @@ fn is_standard(
     requires shape { IsLens problem.now member lens.now }
     requires standard { IsStandardLens problem.now member lens.now }
     requires in_range { All (λ p. p < length problem.now.base.pairings) line.now }
-    ensures standard { IfOk result (λ yes. IsTrue yes ↔ IsStandardLine problem.now goal.now node.now member line.now) }
+    ensures standard { IfOk result (λ yes. IsTrue yes
+        ↔ IsStandardLine problem.now goal.now node.now member line.now) }
 {
     lens_line(alloc, problem, member, goal, node, lens, line)
 }
@@ -66,8 +67,10 @@ fn is_heavier(
     requires shape { IsLens problem.now member lens.now }
     requires standard { IsStandardLens problem.now member lens.now }
     requires in_range { All (λ p. p < length problem.now.base.pairings) line.now }
-    ensures heavier { IfOk result (λ yes. IsTrue yes → IsAbove heaviest most weight × IsStandardLine problem.now goal.now node.now member line.now) }
-    ensures other { IfOk result (λ yes. IsAbove heaviest most weight → IsStandardLine problem.now goal.now node.now member line.now → IsTrue yes) }
+    ensures heavier { IfOk result (λ yes. IsTrue yes → IsAbove heaviest most weight
+        × IsStandardLine problem.now goal.now node.now member line.now) }
+    ensures other { IfOk result (λ yes. IsAbove heaviest most weight
+        → IsStandardLine problem.now goal.now node.now member line.now → IsTrue yes) }
 {
     if heaviest.is_some() && weight <= most {
         return Ok(false);
@@ -95,7 +98,8 @@ pub(crate) fn heaviest(
     requires few_lines { length lines.now ≤ 10000 }
     requires per_pairing { length weights.now ≡ length problem.now.base.pairings }
     requires small { AreSmallWeights weights.now }
-    ensures heaviest { IfOk result (IsHeaviest problem.now goal.now node.now member weights.now lines.now (length lines.now)) }
+    ensures heaviest { IfOk result (IsHeaviest problem.now goal.now node.now member weights.now
+        lines.now (length lines.now)) }
 {
     let mut heaviest = None;
     let mut most = 0;

@@ -45,7 +45,8 @@ impl Pool {
     /// A pool without lines, for a problem of so many members and pairings.
     pub fn new(alloc: Global, problem: &Problem) -> Result<Pool, Memory>
         ensures pairings { IfOk result (λ pool. pool.pairings ≡ length problem.now.base.pairings) }
-        ensures empty { IfOk result (λ pool. pool.lines ≡ no_lines (length problem.now.base.members)) }
+        ensures empty { IfOk result (λ pool. pool.lines ≡ no_lines
+            (length problem.now.base.members)) }
     {
         Ok(Pool {
             pairings: problem.base.pairings.len() as u32,
@@ -76,7 +77,8 @@ impl Pool {
     pub fn fits(&self, problem: &Problem) -> bool
         ensures members { IsTrue result → length problem.now.base.members ≡ length self.now.lines }
         ensures pairings { IsTrue result → length problem.now.base.pairings ≡ self.now.pairings }
-        ensures other { length problem.now.base.members ≡ length self.now.lines → length problem.now.base.pairings ≡ self.now.pairings → IsTrue result }
+        ensures other { length problem.now.base.members ≡ length self.now.lines
+            → length problem.now.base.pairings ≡ self.now.pairings → IsTrue result }
     {
         problem.base.members.len() == self.lines.len()
             && problem.base.pairings.len() == self.pairings as usize
@@ -109,7 +111,8 @@ impl Pool {
         requires node { IsNode problem.now node.now }
         requires per_pairing { length weights.now ≡ length problem.now.base.pairings }
         requires small { AreSmallWeights weights.now }
-        ensures heaviest { IfOk result (IsHeaviest problem.now goal.now node.now member weights.now (lines_of self.now member) (length (lines_of self.now member))) }
+        ensures heaviest { IfOk result (IsHeaviest problem.now goal.now node.now member weights.now
+            (lines_of self.now member) (length (lines_of self.now member))) }
     {
         let lens = standard_lens(alloc, problem, member);
         let lines = &self.lines[member as usize];

@@ -65,7 +65,8 @@ impl Closer for Lone {
 
 /// Whether the first member is to have a score.
 fn asks_for_score(goal: &Goal) -> bool
-    ensures some { IsTrue result → (floor : ℕ) × (slice_get goal.now.floors 0 ≡ Some floor) × (1 ≤ floor) }
+    ensures some { IsTrue result → (floor : ℕ) × (slice_get goal.now.floors 0 ≡ Some floor)
+        × (1 ≤ floor) }
 {
     match goal.floors.as_slice().first() {
         Some(floor) => *floor > 0,

@@ -58,7 +58,8 @@ pub fn search<C: Closer>(
 fn start(alloc: Global, goal: &Goal, ledger: &mut Ledger) -> Result<u32, Memory>
     requires searches { length ledger.old.goals ≤ 4000000000 }
     ensures number { IfOk result (λ number. number ≡ length ledger.old.goals) }
-    ensures ok { OnOk result (ledger.new ≡ record ledger.old { goals = ledger.old.goals ++ goal.now ∷ [] }) }
+    ensures ok { OnOk result (ledger.new ≡ record ledger.old
+        { goals = ledger.old.goals ++ goal.now ∷ [] }) }
     ensures err { OnErr result (ledger.new ≡ ledger.old) }
 {
     let asked = goal.copy(alloc)?;
@@ -131,7 +132,8 @@ fn count_node(
     requires is_open { IsOpenNode problem.now ledger.old.rounds goal.now node.now }
     ensures grown { HasGrown problem.now number ledger.old ledger.new }
     ensures one { length ledger.new.entries ≡ length ledger.old.entries + 1 }
-    ensures below { OnOk result (IsAboveFlown problem.now ledger.new.entries number node.now parents.new.items) }
+    ensures below { OnOk result (IsAboveFlown problem.now ledger.new.entries number node.now
+        parents.new.items) }
 {
     parents.truncate(node.len());
     let entry = Entry {

@@ -42,8 +42,10 @@ fn cause_at(members: u32, place: u32) -> Cause
 /// Adds a reason for the bid, and what shows it.
 fn add(made: &mut Made, members: u32, bid: BidRef, settled: Settled) -> Result<(), Memory>
     ensures known { made.new.known ≡ made.old.known }
-    ensures reasons { OnOk result (made.new.reasons ≡ made.old.reasons ++ (record { bid = bid; cause = cause_at members settled.place }) ∷ []) }
-    ensures shown { OnOk result (made.new.shown ≡ made.old.shown ++ (record { proof = settled.proof; roster = settled.roster }) ∷ []) }
+    ensures reasons { OnOk result (made.new.reasons
+        ≡ made.old.reasons ++ (record { bid = bid; cause = cause_at members settled.place }) ∷ []) }
+    ensures shown { OnOk result (made.new.shown
+        ≡ made.old.shown ++ (record { proof = settled.proof; roster = settled.roster }) ∷ []) }
 {
     let denial = Denial {
         bid,
@@ -76,7 +78,8 @@ fn explain_bid<C: Closer>(
     requires fits { C.fits closer.old problem.now }
     requires rounds { C.rounds closer.old ≡ ledger.old.rounds }
     requires orderly { IsOrderly problem.now ledger.old }
-    requires searches { length ledger.old.goals + (length problem.now.base.members + 1) ≤ 4000000000 }
+    requires searches { length ledger.old.goals + (length problem.now.base.members + 1)
+        ≤ 4000000000 }
     requires room { HasRoom ledger.old }
     requires complete { IsComplete problem.now roster.now }
     requires greatest { IsGreatest problem.now roster.now }
@@ -84,9 +87,13 @@ fn explain_bid<C: Closer>(
     requires bid { IsBidOf problem.now bid }
     requires so_far { AreExplained problem.now roster.now made.old.reasons made.old.shown bid }
     requires known { AreFound problem.now scores.now made.old.known }
-    ensures goes_on { IfOk result (λ goes. MatchBool goes (GoesOn problem.now roster.now (bid_behind bid) ledger.old ledger.new made.old made.new) (IsFull ledger.new)) }
-    ensures adds { AddsSearches problem.now (IsAskedFor problem.now scores.now (λ b. b ≡ bid)) ledger.old ledger.new }
-    ensures takes { TakesSearches problem.now (length problem.now.base.members + 1) ledger.old ledger.new }
+    ensures goes_on { IfOk result (λ goes. MatchBool goes
+        (GoesOn problem.now roster.now (bid_behind bid) ledger.old ledger.new made.old made.new)
+        (IsFull ledger.new)) }
+    ensures adds { AddsSearches problem.now (IsAskedFor problem.now scores.now (λ b. b ≡ bid))
+        ledger.old ledger.new }
+    ensures takes { TakesSearches problem.now
+        (length problem.now.base.members + 1) ledger.old ledger.new }
     ensures rounds { C.rounds closer.new ≡ C.rounds closer.old }
     ensures fits { (other : Problem) → C.fits closer.new other ↔ C.fits closer.old other }
 {
@@ -132,11 +139,16 @@ pub(crate) fn explain_member<C: Closer>(
     requires greatest { IsGreatest problem.now roster.now }
     requires scores { scores.now ≡ scores_of problem.now roster.now }
     requires member { member < length problem.now.base.members }
-    requires so_far { AreExplained problem.now roster.now made.old.reasons made.old.shown (first_bid member) }
+    requires so_far { AreExplained problem.now roster.now made.old.reasons made.old.shown
+        (first_bid member) }
     requires known { AreFound problem.now scores.now made.old.known }
-    ensures goes_on { IfOk result (λ goes. MatchBool goes (GoesOn problem.now roster.now (first_bid (member + 1)) ledger.old ledger.new made.old made.new) (IsFull ledger.new)) }
-    ensures adds { AddsSearches problem.now (IsAskedFor problem.now scores.now (λ b. b.member ≡ member)) ledger.old ledger.new }
-    ensures takes { TakesSearches problem.now (bid_searches problem.now (length (bids_of problem.now member))) ledger.old ledger.new }
+    ensures goes_on { IfOk result (λ goes. MatchBool goes
+        (GoesOn problem.now roster.now (first_bid (member + 1)) ledger.old ledger.new made.old
+        made.new) (IsFull ledger.new)) }
+    ensures adds { AddsSearches problem.now (IsAskedFor problem.now scores.now
+        (λ b. b.member ≡ member)) ledger.old ledger.new }
+    ensures takes { TakesSearches problem.now
+        (bid_searches problem.now (length (bids_of problem.now member))) ledger.old ledger.new }
     ensures rounds { C.rounds closer.new ≡ C.rounds closer.old }
     ensures fits { (other : Problem) → C.fits closer.new other ↔ C.fits closer.old other }
 {

@@ -83,7 +83,13 @@ fn floor_of(goal: &Goal) -> u32
 
 /// A lens that tracks both bids.
 fn lens(alloc: Global) -> Lens
-    ensures value { result ≡ record { grain = 60; tracked = 3; free30 = false; days = false; windows = [] } }
+    ensures value { result ≡ record {
+      grain = 60;
+      tracked = 3;
+      free30 = false;
+      days = false;
+      windows = [];
+    } }
 {
     Lens {
         grain: 60,
@@ -164,7 +170,13 @@ fn pairing(alloc: Global, name: Name, duty: Duty) -> Result<Pairing, Memory>
 
 /// The bids for the pairing and against it.
 fn bids(alloc: Global, weight: u32) -> Result<List<Bid>, Memory>
-    ensures value { IfOk result (λ bids. bids ≡ (record { weight = 10; wish = Fly 0 }) ∷ (record { weight = weight; wish = Avoid ((record { negated = false; test = Is 0 }) ∷ []) }) ∷ []) }
+    ensures value { IfOk result (λ bids. bids
+        ≡ (record { weight = 10; wish = Fly 0 })
+        ∷ (record {
+          weight = weight;
+          wish = Avoid
+              ((record { negated = false; test = Is 0 }) ∷ []);
+        }) ∷ []) }
 {
     let atom = Atom {
         negated: false,
@@ -200,7 +212,13 @@ fn month(
     requires few { weight ≤ 10 }
     ensures members { IfOk result (λ p. length p.base.members ≡ 2) }
     ensures pairings { IfOk result (λ p. length p.base.pairings ≡ 1) }
-    ensures bids { IfOk result (λ p. bids_of p 0 ≡ (record { weight = 10; wish = Fly 0 }) ∷ (record { weight = weight; wish = Avoid ((record { negated = false; test = Is 0 }) ∷ []) }) ∷ []) }
+    ensures bids { IfOk result (λ p. bids_of p 0
+        ≡ (record { weight = 10; wish = Fly 0 })
+        ∷ (record {
+          weight = weight;
+          wish = Avoid
+              ((record { negated = false; test = Is 0 }) ∷ []);
+        }) ∷ []) }
     ensures none { IfOk result (λ p. bids_of p 1 ≡ []) }
 {
     let pairings = one(alloc, flown)?;
@@ -220,7 +238,13 @@ fn june(alloc: Global, weight: u32) -> Result<Option<Problem>, Memory>
     requires few { weight ≤ 10 }
     ensures members { IfOk result (λ o. IfSome o (λ p. length p.base.members ≡ 2)) }
     ensures pairings { IfOk result (λ o. IfSome o (λ p. length p.base.pairings ≡ 1)) }
-    ensures bids { IfOk result (λ o. IfSome o (λ p. bids_of p 0 ≡ (record { weight = 10; wish = Fly 0 }) ∷ (record { weight = weight; wish = Avoid ((record { negated = false; test = Is 0 }) ∷ []) }) ∷ [])) }
+    ensures bids { IfOk result (λ o. IfSome o
+        (λ p. bids_of p 0 ≡ (record { weight = 10; wish = Fly 0 })
+        ∷ (record {
+          weight = weight;
+          wish = Avoid
+              ((record { negated = false; test = Is 0 }) ∷ []);
+        }) ∷ [])) }
     ensures none { IfOk result (λ o. IfSome o (λ p. bids_of p 1 ≡ [])) }
 {
     let Ok(horizon) = Horizon::new(2026, 6, 0) else {

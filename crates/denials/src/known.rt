@@ -57,7 +57,8 @@ pub(crate) fn keep(
     place: u32,
     roster: &Roster,
 ) -> Result<(), Memory>
-    ensures kept { OnOk result (known.new ≡ known.old ++ (record { place = place; roster = roster.now }) ∷ []) }
+    ensures kept { OnOk result (known.new ≡ known.old
+        ++ (record { place = place; roster = roster.now }) ∷ []) }
 {
     let one = Known {
         place,
@@ -114,7 +115,8 @@ pub(crate) fn known_for(
 ) -> Result<Reached, Memory>
     requires bid { IsBidOf problem.now bid }
     requires found { AreFound problem.now scores.now known.now }
-    ensures known { IfOk result (λ r. IsBracketed problem.now scores.now bid r.place (length problem.now.base.members + 1) r.roster None) }
+    ensures known { IfOk result (λ r. IsBracketed problem.now scores.now bid r.place
+        (length problem.now.base.members + 1) r.roster None) }
     ensures within { IfOk result (λ r. r.place ≤ length problem.now.base.members + 1) }
 {
     let (at, place) = best_known(problem, scores, bid, known);

@@ -35,8 +35,10 @@ pub fn explain<C: Closer>(
     requires greatest { IsGreatest problem.now roster.now }
     ensures outcome { IfOk result (IsExplanation problem.now roster.now ledger.new) }
     ensures adds { AddsSearches problem.now (IsBidGoal problem.now) ledger.old ledger.new }
-    ensures lawful { IsLawfulBook problem.now ledger.old → All (λ goal. goal.grant ≡ None) ledger.old.goals → IsLawfulBook problem.now ledger.new }
-    ensures takes { TakesSearches problem.now (bid_searches problem.now (bid_count problem.now)) ledger.old ledger.new }
+    ensures lawful { IsLawfulBook problem.now ledger.old
+        → All (λ goal. goal.grant ≡ None) ledger.old.goals → IsLawfulBook problem.now ledger.new }
+    ensures takes { TakesSearches problem.now
+        (bid_searches problem.now (bid_count problem.now)) ledger.old ledger.new }
     ensures enough { FitsDenials problem.now ledger.old → IfOk result IsNotSpent }
     ensures short { IfOk result (HasFewSplits ledger.old ledger.new) }
     ensures rounds { C.rounds closer.new ≡ C.rounds closer.old }
@@ -67,8 +69,10 @@ fn explain_all<C: Closer>(
     requires greatest { IsGreatest problem.now roster.now }
     requires scores { scores.now ≡ scores_of problem.now roster.now }
     ensures outcome { IfOk result (IsExplanation problem.now roster.now ledger.new) }
-    ensures adds { AddsSearches problem.now (IsAskedFor problem.now scores.now (λ b. b.member < length problem.now.base.members)) ledger.old ledger.new }
-    ensures takes { TakesSearches problem.now (bid_searches problem.now (bid_count problem.now)) ledger.old ledger.new }
+    ensures adds { AddsSearches problem.now (IsAskedFor problem.now scores.now
+        (λ b. b.member < length problem.now.base.members)) ledger.old ledger.new }
+    ensures takes { TakesSearches problem.now
+        (bid_searches problem.now (bid_count problem.now)) ledger.old ledger.new }
     ensures short { IfOk result (HasFewSplits ledger.old ledger.new) }
     ensures rounds { C.rounds closer.new ≡ C.rounds closer.old }
     ensures fits { (other : Problem) → C.fits closer.new other ↔ C.fits closer.old other }

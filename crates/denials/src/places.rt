@@ -86,17 +86,21 @@ pub(crate) fn settle<C: Closer>(
     requires fits { C.fits closer.old problem.now }
     requires rounds { C.rounds closer.old ≡ ledger.old.rounds }
     requires orderly { IsOrderly problem.now ledger.old }
-    requires searches { length ledger.old.goals + (length problem.now.base.members + 1) ≤ 4000000000 }
+    requires searches { length ledger.old.goals + (length problem.now.base.members + 1)
+        ≤ 4000000000 }
     requires room { HasRoom ledger.old }
     requires members { length scores.now ≡ length problem.now.base.members }
     requires bid { IsBidOf problem.now bid }
     requires within { start.place ≤ length problem.now.base.members + 1 }
-    requires start { IsBracketed problem.now scores.now bid start.place (length problem.now.base.members + 1) start.roster None }
+    requires start { IsBracketed problem.now scores.now bid start.place
+        (length problem.now.base.members + 1) start.roster None }
     requires known { AreFound problem.now scores.now known.old }
     ensures settled { IfOk result (IsSettling problem.now scores.now bid ledger.old ledger.new) }
     ensures known { OnOk result (AreFound problem.now scores.now known.new) }
-    ensures adds { AddsSearches problem.now (IsAskedFor problem.now scores.now (λ b. b ≡ bid)) ledger.old ledger.new }
-    ensures takes { TakesSearches problem.now (length problem.now.base.members + 1) ledger.old ledger.new }
+    ensures adds { AddsSearches problem.now (IsAskedFor problem.now scores.now (λ b. b ≡ bid))
+        ledger.old ledger.new }
+    ensures takes { TakesSearches problem.now
+        (length problem.now.base.members + 1) ledger.old ledger.new }
     ensures rounds { C.rounds closer.new ≡ C.rounds closer.old }
     ensures fits { (other : Problem) → C.fits closer.new other ↔ C.fits closer.old other }
 {

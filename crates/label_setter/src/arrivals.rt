@@ -28,7 +28,9 @@ pub fn arriving_by_place<S: Copy>(
 ) -> Result<Vec<Vec<u32>>, Memory>
     requires graph { IsGraph places arcs.now }
     ensures count { IfOk result (λ lists. length lists.items ≡ places) }
-    ensures arriving { IfOk result (λ lists. (place : ℕ) (numbers : List ℕ) → slice_get (map (λ list. list.items) lists.items) place ≡ Some numbers → Arriving arcs.now place numbers) }
+    ensures arriving { IfOk result (λ lists. (place : ℕ) (numbers : List ℕ)
+        → slice_get (map (λ list. list.items) lists.items) place ≡ Some numbers
+        → Arriving arcs.now place numbers) }
 {
     let mut lists = empty_lists(alloc, places)?;
     for (number, arc) in arcs.iter().enumerate() {

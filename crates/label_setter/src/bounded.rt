@@ -35,13 +35,21 @@ pub fn set_labels_over<R: Resource, B: Rest<R>, L: Ledger>(
     steps: &mut Steps<L>,
 ) -> Result<Option<Traced>, SetterFault>
     requires rest { IsRest R.extend R.done graph.now (B.rest above.now.rest) }
-    ensures attained { IfOk result (λ answer. IfSome answer (λ traced. IsFeasible R.extend R.done graph.now traced.arcs traced.gain)) }
-    ensures above { IfOk result (λ answer. IfSome answer (λ traced. above.now.over <ℤ traced.gain)) }
-    ensures greatest { IfOk result (λ answer. IfSome answer (λ traced. (chain : List ℕ) (gain : ℤ) → IsFeasible R.extend R.done graph.now chain gain → gain ≤ℤ traced.gain)) }
-    ensures none { IfOk result (λ answer. IfNone answer ((chain : List ℕ) (gain : ℤ) → IsFeasible R.extend R.done graph.now chain gain → gain ≤ℤ above.now.over)) }
+    ensures attained { IfOk result (λ answer. IfSome answer
+        (λ traced. IsFeasible R.extend R.done graph.now traced.arcs traced.gain)) }
+    ensures above { IfOk result (λ answer. IfSome answer
+        (λ traced. above.now.over <ℤ traced.gain)) }
+    ensures greatest { IfOk result (λ answer. IfSome answer
+        (λ traced. (chain : List ℕ) (gain : ℤ) → IsFeasible R.extend R.done graph.now chain gain
+        → gain ≤ℤ traced.gain)) }
+    ensures none { IfOk result (λ answer. IfNone answer
+        ((chain : List ℕ) (gain : ℤ) → IsFeasible R.extend R.done graph.now chain gain
+        → gain ≤ℤ above.now.over)) }
     ensures room { (n : ℕ) → IsErrOf result (SetterFault.Room n) → n ≡ room }
-    ensures crowd { (n : ℕ) → IsErrOf result (SetterFault.Room n) → Crowd R.below R.extend graph.now.start graph.now.arcs (n + 1) }
-    ensures steps { (most : ℕ) → FewApart R.below R.extend graph.now.start graph.now.arcs most → steps.new ≤ steps.old + most * length graph.now.arcs }
+    ensures crowd { (n : ℕ) → IsErrOf result (SetterFault.Room n)
+        → Crowd R.below R.extend graph.now.start graph.now.arcs (n + 1) }
+    ensures steps { (most : ℕ) → FewApart R.below R.extend graph.now.start graph.now.arcs most
+        → steps.new ≤ steps.old + most * length graph.now.arcs }
 {
     match best_chain(alloc, graph, above, Some(room), steps) {
         Ok(answer) => Ok(only_above(answer, above)),
@@ -58,9 +66,13 @@ fn best_over<R: Resource, B: Rest<R>, L: Ledger>(
     steps: &mut Steps<L>,
 ) -> Result<Option<Traced>, Memory>
     requires rest { IsRest R.extend R.done graph.now (B.rest above.now.rest) }
-    ensures attained { IfOk result (λ answer. IfSome answer (λ traced. IsFeasible R.extend R.done graph.now traced.arcs traced.gain)) }
-    ensures greatest { IfOk result (λ answer. IfSome answer (λ traced. (chain : List ℕ) (gain : ℤ) → IsFeasible R.extend R.done graph.now chain gain → gain ≤ℤ traced.gain)) }
-    ensures steps { (most : ℕ) → FewApart R.below R.extend graph.now.start graph.now.arcs most → steps.new ≤ steps.old + most * length graph.now.arcs }
+    ensures attained { IfOk result (λ answer. IfSome answer
+        (λ traced. IsFeasible R.extend R.done graph.now traced.arcs traced.gain)) }
+    ensures greatest { IfOk result (λ answer. IfSome answer
+        (λ traced. (chain : List ℕ) (gain : ℤ) → IsFeasible R.extend R.done graph.now chain gain
+        → gain ≤ℤ traced.gain)) }
+    ensures steps { (most : ℕ) → FewApart R.below R.extend graph.now.start graph.now.arcs most
+        → steps.new ≤ steps.old + most * length graph.now.arcs }
 {
     match best_chain(alloc, graph, above, None, steps) {
         Ok(found) => Ok(only_above(found, above)),
@@ -95,10 +107,15 @@ pub fn set_labels_falling<R: Resource, B: Rest<R> + Drop, L: Ledger>(
     steps: &mut Steps<L>,
 ) -> Result<Option<Traced>, Memory>
     requires rest { IsRest R.extend R.done graph.now (B.rest rest) }
-    ensures attained { IfOk result (λ answer. IfSome answer (λ traced. IsFeasible R.extend R.done graph.now traced.arcs traced.gain)) }
-    ensures greatest { IfOk result (λ answer. IfSome answer (λ traced. (chain : List ℕ) (gain : ℤ) → IsFeasible R.extend R.done graph.now chain gain → gain ≤ℤ traced.gain)) }
-    ensures none { IfOk result (λ answer. IfNone answer ((chain : List ℕ) (gain : ℤ) → IsFeasible R.extend R.done graph.now chain gain → ⊥)) }
-    ensures steps { (most : ℕ) → FewApart R.below R.extend graph.now.start graph.now.arcs most → steps.new ≤ steps.old + 6 * (most * length graph.now.arcs) }
+    ensures attained { IfOk result (λ answer. IfSome answer
+        (λ traced. IsFeasible R.extend R.done graph.now traced.arcs traced.gain)) }
+    ensures greatest { IfOk result (λ answer. IfSome answer
+        (λ traced. (chain : List ℕ) (gain : ℤ) → IsFeasible R.extend R.done graph.now chain gain
+        → gain ≤ℤ traced.gain)) }
+    ensures none { IfOk result (λ answer. IfNone answer
+        ((chain : List ℕ) (gain : ℤ) → IsFeasible R.extend R.done graph.now chain gain → ⊥)) }
+    ensures steps { (most : ℕ) → FewApart R.below R.extend graph.now.start graph.now.arcs most
+        → steps.new ≤ steps.old + 6 * (most * length graph.now.arcs) }
 {
     let top = rest.rest(0, &graph.start);
     let mut above = Above { rest, over: top };

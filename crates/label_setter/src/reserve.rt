@@ -60,13 +60,23 @@ fn best_in<R: Resource, L: Ledger>(
     requires graph { IsGraph places arcs.now }
     requires reserved { IsReserved (Some room) places (length arcs.now) desk.old }
     requires long { places ≤ vec_capacity chain.old }
-    ensures attained { IfOk result (λ answer. IfSome answer (λ gain. IsFeasible R.extend R.done (record { places = places; start = start; end = end.now; arcs = arcs.now }) chain.new.items gain)) }
-    ensures greatest { IfOk result (λ answer. IfSome answer (λ gain. (other : List ℕ) (less : ℤ) → IsFeasible R.extend R.done (record { places = places; start = start; end = end.now; arcs = arcs.now }) other less → less ≤ℤ gain)) }
-    ensures none { IfOk result (λ answer. IfNone answer ((other : List ℕ) (less : ℤ) → IsFeasible R.extend R.done (record { places = places; start = start; end = end.now; arcs = arcs.now }) other less → ⊥)) }
+    ensures attained { IfOk result (λ answer. IfSome answer
+        (λ gain. IsFeasible R.extend R.done (record
+        { places = places; start = start; end = end.now; arcs = arcs.now }) chain.new.items gain)) }
+    ensures greatest { IfOk result (λ answer. IfSome answer
+        (λ gain. (other : List ℕ) (less : ℤ) → IsFeasible R.extend R.done
+        (record { places = places; start = start; end = end.now; arcs = arcs.now }) other less
+        → less ≤ℤ gain)) }
+    ensures none { IfOk result (λ answer. IfNone answer
+        ((other : List ℕ) (less : ℤ) → IsFeasible R.extend R.done
+        (record { places = places; start = start; end = end.now; arcs = arcs.now }) other less
+        → ⊥)) }
     ensures room { (n : ℕ) → IsErrOf result (record { room = n }) → n ≡ room }
     ensures crowd { IsErr result → Crowd R.below R.extend start arcs.now (room + 1) }
-    ensures steps { (most : ℕ) → FewApart R.below R.extend start arcs.now most → steps.new ≤ steps.old + most * length arcs.now }
-    ensures reserved { (p a : ℕ) → IsReserved (Some room) p a desk.old → IsReserved (Some room) p a desk.new }
+    ensures steps { (most : ℕ) → FewApart R.below R.extend start arcs.now most
+        → steps.new ≤ steps.old + most * length arcs.now }
+    ensures reserved { (p a : ℕ) → IsReserved (Some room) p a desk.old
+        → IsReserved (Some room) p a desk.new }
     ensures capacity { vec_capacity chain.old ≤ vec_capacity chain.new }
 {
     match fill_chain(
@@ -90,7 +100,8 @@ impl<R: Resource> Setter<R> {
     /// A setter for graphs of so many places and arcs, with room for so many labels at all places together, that of the
     /// source among them.
     pub fn new(alloc: Global, places: u32, arcs: u32, room: u32) -> Result<Setter<R>, Memory>
-        ensures new { IfOk result (λ s. s ≡ record { places = places; arcs = arcs; room = room; chain = [] }) }
+        ensures new { IfOk result (λ s. s ≡ record
+            { places = places; arcs = arcs; room = room; chain = [] }) }
     {
         Ok(Setter {
             desk: Desk::reserved(alloc, places, arcs, room)?,
@@ -114,12 +125,23 @@ impl<R: Resource> Setter<R> {
         requires graph { IsGraph places arcs.now }
         requires places_fit { places ≤ self.old.places }
         requires arcs_fit { length arcs.now ≤ self.old.arcs }
-        ensures attained { IfOk result (λ answer. IfSome answer (λ gain. IsFeasible R.extend R.done (record { places = places; start = start; end = end.now; arcs = arcs.now }) self.new.chain gain)) }
-        ensures greatest { IfOk result (λ answer. IfSome answer (λ gain. (chain : List ℕ) (less : ℤ) → IsFeasible R.extend R.done (record { places = places; start = start; end = end.now; arcs = arcs.now }) chain less → less ≤ℤ gain)) }
-        ensures none { IfOk result (λ answer. IfNone answer ((chain : List ℕ) (less : ℤ) → IsFeasible R.extend R.done (record { places = places; start = start; end = end.now; arcs = arcs.now }) chain less → ⊥)) }
+        ensures attained { IfOk result (λ answer. IfSome answer
+            (λ gain. IsFeasible R.extend R.done
+            (record { places = places; start = start; end = end.now; arcs = arcs.now })
+            self.new.chain gain)) }
+        ensures greatest { IfOk result (λ answer. IfSome answer
+            (λ gain. (chain : List ℕ) (less : ℤ)
+            → IsFeasible R.extend R.done (record
+            { places = places; start = start; end = end.now; arcs = arcs.now }) chain less
+            → less ≤ℤ gain)) }
+        ensures none { IfOk result (λ answer. IfNone answer
+            ((chain : List ℕ) (less : ℤ) → IsFeasible R.extend R.done
+            (record { places = places; start = start; end = end.now; arcs = arcs.now }) chain less
+            → ⊥)) }
         ensures room { (n : ℕ) → IsErrOf result (record { room = n }) → n ≡ self.old.room }
         ensures crowd { IsErr result → Crowd R.below R.extend start arcs.now (self.old.room + 1) }
-        ensures steps { (most : ℕ) → FewApart R.below R.extend start arcs.now most → steps.new ≤ steps.old + most * length arcs.now }
+        ensures steps { (most : ℕ) → FewApart R.below R.extend start arcs.now most
+            → steps.new ≤ steps.old + most * length arcs.now }
         ensures same { self.new ≡ record self.old { chain = self.new.chain } }
     {
         let room = self.room;

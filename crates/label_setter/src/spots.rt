@@ -54,7 +54,8 @@ fn keep_all<R: Resource>(
     ensures full { IsErrOf result Stop.Full → ThinsOver R.below (here.old.items ++ found.now) left }
     ensures labels { vec_capacity here.old ≤ vec_capacity here.new }
     ensures groups { vec_capacity buckets.old ≤ vec_capacity buckets.new }
-    ensures calm { (room : ℕ) → left ≡ Some room → room ≤ vec_capacity here.old → room ≤ vec_capacity buckets.old * 16 → IsErrOf result Stop.NoMemory → ⊥ }
+    ensures calm { (room : ℕ) → left ≡ Some room → room ≤ vec_capacity here.old
+        → room ≤ vec_capacity buckets.old * 16 → IsErrOf result Stop.NoMemory → ⊥ }
 {
     for label in found {
         keep(here, buckets, *label, left)?;
@@ -81,7 +82,8 @@ pub(crate) fn settle<R: Resource>(spot: &mut Spot<R>, left: Option<u32>) -> Resu
 /// Adds a label to those that wait, where these have room.
 fn push_found<R: Resource>(spot: &mut Spot<R>, label: Label<R>) -> Result<(), Memory>
     requires free { length spot.old.found.items < spot.old.most }
-    ensures spot { OnOk result ((left : Option ℕ) → IsSpot R.below R.rank left spot.old → IsSpot R.below R.rank left spot.new) }
+    ensures spot { OnOk result ((left : Option ℕ) → IsSpot R.below R.rank left spot.old
+        → IsSpot R.below R.rank left spot.new) }
     ensures gains { OnOk result (Gains R.below label (all_of spot.old) (all_of spot.new)) }
     ensures serves { (any : Option ℕ) → Serves any spot.old → Serves any spot.new }
     ensures calm { (left : Option ℕ) → Serves left spot.old → IsErr result → ⊥ }

@@ -39,14 +39,28 @@ pub(crate) fn fill_chain<R: Resource, P: Sieve<R>, L: Ledger>(
 ) -> Result<Option<i64>, Stop>
     requires some { 1 ≤ desk.old.spot.most }
     requires graph { IsGraph places arcs.now }
-    ensures attained { IfOk result (λ answer. IfSome answer (λ gain. IsFeasible R.extend R.done (record { places = places; start = start; end = end.now; arcs = arcs.now }) chain.new.items gain)) }
-    ensures greatest { IfOk result (λ answer. IfSome answer (λ gain. (sought : Reached R → Bool) → IsSought R.below R.extend (P.passes sieve.now) arcs.now sought → (other : List ℕ) (less : ℤ) → IsSoughtChain R.extend R.done (record { places = places; start = start; end = end.now; arcs = arcs.now }) sought other less → less ≤ℤ gain)) }
-    ensures none { IfOk result (λ answer. IfNone answer ((sought : Reached R → Bool) → IsSought R.below R.extend (P.passes sieve.now) arcs.now sought → (other : List ℕ) (less : ℤ) → IsSoughtChain R.extend R.done (record { places = places; start = start; end = end.now; arcs = arcs.now }) sought other less → ⊥)) }
+    ensures attained { IfOk result (λ answer. IfSome answer
+        (λ gain. IsFeasible R.extend R.done (record
+        { places = places; start = start; end = end.now; arcs = arcs.now }) chain.new.items gain)) }
+    ensures greatest { IfOk result (λ answer. IfSome answer
+        (λ gain. (sought : Reached R → Bool) → IsSought R.below R.extend
+        (P.passes sieve.now) arcs.now sought → (other : List ℕ) (less : ℤ)
+        → IsSoughtChain R.extend R.done (record
+        { places = places; start = start; end = end.now; arcs = arcs.now }) sought other less
+        → less ≤ℤ gain)) }
+    ensures none { IfOk result (λ answer. IfNone answer
+        ((sought : Reached R → Bool) → IsSought R.below R.extend
+        (P.passes sieve.now) arcs.now sought → (other : List ℕ) (less : ℤ)
+        → IsSoughtChain R.extend R.done (record
+        { places = places; start = start; end = end.now; arcs = arcs.now }) sought other less
+        → ⊥)) }
     ensures full { IsErrOf result Stop.Full → RoomOver R.below R.extend start arcs.now room }
-    ensures steps { (most : ℕ) → FewApart R.below R.extend start arcs.now most → steps.new ≤ steps.old + most * length arcs.now }
+    ensures steps { (most : ℕ) → FewApart R.below R.extend start arcs.now most
+        → steps.new ≤ steps.old + most * length arcs.now }
     ensures reserved { (p a : ℕ) → IsReserved room p a desk.old → IsReserved room p a desk.new }
     ensures capacity { vec_capacity chain.old ≤ vec_capacity chain.new }
-    ensures calm { IsReserved room places (length arcs.now) desk.old → places ≤ vec_capacity chain.old → IsErrOf result Stop.NoMemory → ⊥ }
+    ensures calm { IsReserved room places (length arcs.now) desk.old
+        → places ≤ vec_capacity chain.old → IsErrOf result Stop.NoMemory → ⊥ }
 {
     fill_labels(desk, sieve, places, start, arcs, room, steps)?;
     let sink = places - 1;
@@ -66,11 +80,21 @@ pub(crate) fn best_chain<R: Resource, P: Sieve<R>, L: Ledger>(
     room: Option<u32>,
     steps: &mut Steps<L>,
 ) -> Result<Option<Traced>, Stop>
-    ensures attained { IfOk result (λ answer. IfSome answer (λ traced. IsFeasible R.extend R.done graph.now traced.arcs traced.gain)) }
-    ensures greatest { IfOk result (λ answer. IfSome answer (λ traced. (sought : Reached R → Bool) → IsSought R.below R.extend (P.passes sieve.now) graph.now.arcs sought → (chain : List ℕ) (gain : ℤ) → IsSoughtChain R.extend R.done graph.now sought chain gain → gain ≤ℤ traced.gain)) }
-    ensures none { IfOk result (λ answer. IfNone answer ((sought : Reached R → Bool) → IsSought R.below R.extend (P.passes sieve.now) graph.now.arcs sought → (chain : List ℕ) (gain : ℤ) → IsSoughtChain R.extend R.done graph.now sought chain gain → ⊥)) }
-    ensures full { IsErrOf result Stop.Full → RoomOver R.below R.extend graph.now.start graph.now.arcs room }
-    ensures steps { (most : ℕ) → FewApart R.below R.extend graph.now.start graph.now.arcs most → steps.new ≤ steps.old + most * length graph.now.arcs }
+    ensures attained { IfOk result (λ answer. IfSome answer
+        (λ traced. IsFeasible R.extend R.done graph.now traced.arcs traced.gain)) }
+    ensures greatest { IfOk result (λ answer. IfSome answer
+        (λ traced. (sought : Reached R → Bool)
+        → IsSought R.below R.extend (P.passes sieve.now) graph.now.arcs sought
+        → (chain : List ℕ) (gain : ℤ) → IsSoughtChain R.extend R.done graph.now sought chain gain
+        → gain ≤ℤ traced.gain)) }
+    ensures none { IfOk result (λ answer. IfNone answer
+        ((sought : Reached R → Bool) → IsSought R.below R.extend
+        (P.passes sieve.now) graph.now.arcs sought → (chain : List ℕ) (gain : ℤ)
+        → IsSoughtChain R.extend R.done graph.now sought chain gain → ⊥)) }
+    ensures full { IsErrOf result Stop.Full → RoomOver R.below R.extend graph.now.start
+        graph.now.arcs room }
+    ensures steps { (most : ℕ) → FewApart R.below R.extend graph.now.start graph.now.arcs most
+        → steps.new ≤ steps.old + most * length graph.now.arcs }
 {
     let mut desk = Desk::bare(alloc);
     let mut chain = Vec::new(alloc);
@@ -90,7 +114,8 @@ pub(crate) fn best_chain<R: Resource, P: Sieve<R>, L: Ledger>(
 
 /// The gain, where there is one, with the arcs.
 fn traced_of(answer: Option<i64>, chain: Vec<u32>) -> Option<Traced>
-    ensures traced { result ≡ option_map (λ gain. record { gain = gain; arcs = chain.items }) answer }
+    ensures traced { result ≡ option_map (λ gain. record { gain = gain; arcs = chain.items })
+        answer }
 {
     let gain = answer?;
     Some(Traced {
@@ -106,10 +131,15 @@ pub fn trace_labels<R: Resource, L: Ledger>(
     graph: &Graph<R>,
     steps: &mut Steps<L>,
 ) -> Result<Option<Traced>, Memory>
-    ensures attained { IfOk result (λ answer. IfSome answer (λ traced. IsFeasible R.extend R.done graph.now traced.arcs traced.gain)) }
-    ensures greatest { IfOk result (λ answer. IfSome answer (λ traced. (chain : List ℕ) (gain : ℤ) → IsFeasible R.extend R.done graph.now chain gain → gain ≤ℤ traced.gain)) }
-    ensures none { IfOk result (λ answer. IfNone answer ((chain : List ℕ) (gain : ℤ) → IsFeasible R.extend R.done graph.now chain gain → ⊥)) }
-    ensures steps { (most : ℕ) → FewApart R.below R.extend graph.now.start graph.now.arcs most → steps.new ≤ steps.old + most * length graph.now.arcs }
+    ensures attained { IfOk result (λ answer. IfSome answer
+        (λ traced. IsFeasible R.extend R.done graph.now traced.arcs traced.gain)) }
+    ensures greatest { IfOk result (λ answer. IfSome answer
+        (λ traced. (chain : List ℕ) (gain : ℤ) → IsFeasible R.extend R.done graph.now chain gain
+        → gain ≤ℤ traced.gain)) }
+    ensures none { IfOk result (λ answer. IfNone answer
+        ((chain : List ℕ) (gain : ℤ) → IsFeasible R.extend R.done graph.now chain gain → ⊥)) }
+    ensures steps { (most : ℕ) → FewApart R.below R.extend graph.now.start graph.now.arcs most
+        → steps.new ≤ steps.old + most * length graph.now.arcs }
 {
     match best_chain(alloc, graph, &All, None, steps) {
         Ok(answer) => Ok(answer),
@@ -126,12 +156,18 @@ pub fn trace_labels_in<R: Resource, L: Ledger>(
     room: u32,
     steps: &mut Steps<L>,
 ) -> Result<Option<Traced>, SetterFault>
-    ensures attained { IfOk result (λ answer. IfSome answer (λ traced. IsFeasible R.extend R.done graph.now traced.arcs traced.gain)) }
-    ensures greatest { IfOk result (λ answer. IfSome answer (λ traced. (chain : List ℕ) (gain : ℤ) → IsFeasible R.extend R.done graph.now chain gain → gain ≤ℤ traced.gain)) }
-    ensures none { IfOk result (λ answer. IfNone answer ((chain : List ℕ) (gain : ℤ) → IsFeasible R.extend R.done graph.now chain gain → ⊥)) }
+    ensures attained { IfOk result (λ answer. IfSome answer
+        (λ traced. IsFeasible R.extend R.done graph.now traced.arcs traced.gain)) }
+    ensures greatest { IfOk result (λ answer. IfSome answer
+        (λ traced. (chain : List ℕ) (gain : ℤ) → IsFeasible R.extend R.done graph.now chain gain
+        → gain ≤ℤ traced.gain)) }
+    ensures none { IfOk result (λ answer. IfNone answer
+        ((chain : List ℕ) (gain : ℤ) → IsFeasible R.extend R.done graph.now chain gain → ⊥)) }
     ensures room { (n : ℕ) → IsErrOf result (SetterFault.Room n) → n ≡ room }
-    ensures crowd { (n : ℕ) → IsErrOf result (SetterFault.Room n) → Crowd R.below R.extend graph.now.start graph.now.arcs (n + 1) }
-    ensures steps { (most : ℕ) → FewApart R.below R.extend graph.now.start graph.now.arcs most → steps.new ≤ steps.old + most * length graph.now.arcs }
+    ensures crowd { (n : ℕ) → IsErrOf result (SetterFault.Room n)
+        → Crowd R.below R.extend graph.now.start graph.now.arcs (n + 1) }
+    ensures steps { (most : ℕ) → FewApart R.below R.extend graph.now.start graph.now.arcs most
+        → steps.new ≤ steps.old + most * length graph.now.arcs }
 {
     match best_chain(alloc, graph, &All, Some(room), steps) {
         Ok(answer) => Ok(answer),

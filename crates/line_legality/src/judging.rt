@@ -72,7 +72,8 @@ pub fn legal(alloc: Global, problem: &Problem, member: u32, line: &Line) -> Resu
     requires in_range { All (λ p. p < length problem.now.base.pairings) line.now }
     ensures ok { OnOk result (IsLegal problem.now member line.now) }
     ensures fault { IfErr result (IsFirstFault problem.now member line.now) }
-    ensures illegal { IfErr result (λ why. why ≢ NoMemory → ¬ (IsLegal problem.now member line.now)) }
+    ensures illegal { IfErr result (λ why. why ≢ NoMemory
+        → ¬ (IsLegal problem.now member line.now)) }
 {
     let spans = occupied(alloc, problem, member, line)?;
     let events = timeline(alloc, problem, member, line)?;

@@ -68,7 +68,8 @@ fn goes<const N: usize>(
 ) -> Option<LineLabel<N>>
     requires forward { from < to }
     requires within { to < length chart.now.places.items }
-    ensures goes { result ≡ (if chart_may chart.now to && chart_near chart.now from to then label_extend label.now (chart_step chart.now from to) else None) }
+    ensures goes { result ≡ (if chart_may chart.now to && chart_near chart.now from to then
+        label_extend label.now (chart_step chart.now from to) else None) }
 {
     if !chart.is_open(from, to) {
         return None;
@@ -87,7 +88,9 @@ fn walks<const N: usize>(
 ) -> bool
     requires places { length items.now ≡ length chart.now.places.items }
     requires two { (2 ≤ length items.now) × (length items.now ≤ 2000) }
-    ensures passes { result ≡ passes (joins_by (chart_may chart.now) (chart_must chart.now) (chart_near chart.now)) label_extend label_done (chart_step chart.now) end 0 start.entry (stops_on (is_stop line.now pairings items.now) 1 (length items.now)) }
+    ensures passes { result ≡ passes (joins_by (chart_may chart.now) (chart_must chart.now)
+        (chart_near chart.now)) label_extend label_done (chart_step chart.now) end 0 start.entry
+        (stops_on (is_stop line.now pairings items.now) 1 (length items.now)) }
 {
     let mut from = 0;
     let mut label = start;
@@ -120,8 +123,11 @@ pub fn lens_line(
     requires node { IsNode problem.now node.now }
     requires lens { IsLens problem.now member lens.now }
     requires in_range { All (λ p. p < length problem.now.base.pairings) line.now }
-    ensures passes { IfOk result (λ yes. yes ≡ true ↔ IsLensLine problem.now member goal.now node.now lens.now line.now) }
-    ensures relaxed { (other : List ℕ) → IsLegal problem.now member other → MeetsGoal problem.now goal.now member other → Obeys node.now member other → IsLensLine problem.now member goal.now node.now lens.now other }
+    ensures passes { IfOk result (λ yes. yes ≡ true
+        ↔ IsLensLine problem.now member goal.now node.now lens.now line.now) }
+    ensures relaxed { (other : List ℕ) → IsLegal problem.now member other
+        → MeetsGoal problem.now goal.now member other → Obeys node.now member other
+        → IsLensLine problem.now member goal.now node.now lens.now other }
 {
     let pairings = problem.base.pairings.len();
     let weights = no_weights(alloc, pairings)?;

@@ -55,9 +55,14 @@ pub fn line_graph<const N: usize>(
     requires small { AreSmallWeights weights.now }
     requires windows { length lens.now.windows ≤ N }
     requires in_range { N ≤ 4096 }
-    ensures stands { IfOk result (λ g. StandsForLines label_extend label_done g.graph g.places problem.now member goal.now node.now lens.now weights.now) }
-    ensures few { IfOk result (λ g. IsStandardLens problem.now member lens.now → length g.graph.arcs ≤ (length problem.now.base.pairings + 1) * (length problem.now.base.pairings + 1)) }
-    ensures labels { IfOk result (λ g. IsStandardLens problem.now member lens.now → FewApart label_below label_extend g.graph.start g.graph.arcs (256 * (length problem.now.base.pairings + 1) * (high_of problem.now member / 60 + 1))) }
+    ensures stands { IfOk result (λ g. StandsForLines label_extend label_done g.graph g.places
+        problem.now member goal.now node.now lens.now weights.now) }
+    ensures few { IfOk result (λ g. IsStandardLens problem.now member lens.now
+        → length g.graph.arcs ≤ (length problem.now.base.pairings + 1)
+        * (length problem.now.base.pairings + 1)) }
+    ensures labels { IfOk result (λ g. IsStandardLens problem.now member lens.now
+        → FewApart label_below label_extend g.graph.start g.graph.arcs
+        (256 * (length problem.now.base.pairings + 1) * (high_of problem.now member / 60 + 1))) }
 {
     let mut desk = ChartDesk::<N>::bare(alloc);
     fill_timed::<N>(alloc, &mut desk, problem, member, node, lens, weights)?;

@@ -46,7 +46,8 @@ fn added_at(adds: &[u32], count: u32, place: u32) -> u32
 
 /// Lists what each arc adds, by the place that it takes.
 fn fill_arc_adds(out: &mut Vec<u32>, adds: &[u32], taken: &[u32], count: u32) -> Result<(), Memory>
-    ensures adds { OnOk result (out.new.items ≡ map (λ t. slice_index_or adds.now t count) taken.now) }
+    ensures adds { OnOk result (out.new.items ≡ map
+        (λ t. slice_index_or adds.now t count) taken.now) }
     ensures capacity { vec_capacity out.old ≤ vec_capacity out.new }
     ensures calm { length taken.now ≤ vec_capacity out.old → IsErr result → ⊥ }
 {
@@ -114,12 +115,23 @@ fn fill_arcs<const N: usize>(parts: &mut TakeParts<N>, count: u32) -> Result<u32
     requires few { length parts.old.desk.chart.places.items ≤ 2000 }
     ensures places { IfOk result (λ places. places ≡ length parts.old.desk.chart.places.items) }
     ensures desk { parts.new.desk ≡ parts.old.desk }
-    ensures arcs { OnOk result (AreTakeArcs (passes_by (chart_may parts.old.desk.chart) (chart_must parts.old.desk.chart)) (takes_by (chart_may parts.old.desk.chart) (chart_must parts.old.desk.chart) (chart_near parts.old.desk.chart)) (λ t. chart_gain parts.old.desk.chart 0 t) (chart_take parts.old.desk.chart) parts.new.arcs.items parts.new.taken.items) }
-    ensures fit { OnOk result (All (FitsPlaces (length parts.old.desk.chart.places.items)) parts.new.arcs.items) }
-    ensures few { OnOk result (length parts.new.arcs.items + 3 ≤ 2 * length parts.old.desk.chart.places.items) }
-    ensures adds { OnOk result (parts.new.adds.items ≡ map (λ t. slice_index_or (map (added_by count) parts.old.desk.items.items) t count) parts.new.taken.items) }
-    ensures room { (pairings : ℕ) → HasTakeRoom pairings parts.old → HasTakeRoom pairings parts.new }
-    ensures calm { (pairings : ℕ) → HasTakeRoom pairings parts.old → length parts.old.desk.chart.places.items ≤ pairings + 62 → length parts.old.desk.items.items ≤ pairings + 62 → IsErr result → ⊥ }
+    ensures arcs { OnOk result (AreTakeArcs (passes_by (chart_may parts.old.desk.chart)
+        (chart_must parts.old.desk.chart)) (takes_by (chart_may parts.old.desk.chart)
+        (chart_must parts.old.desk.chart) (chart_near parts.old.desk.chart))
+        (λ t. chart_gain parts.old.desk.chart 0 t)
+        (chart_take parts.old.desk.chart) parts.new.arcs.items parts.new.taken.items) }
+    ensures fit { OnOk result (All (FitsPlaces (length parts.old.desk.chart.places.items))
+        parts.new.arcs.items) }
+    ensures few { OnOk result (length parts.new.arcs.items + 3
+        ≤ 2 * length parts.old.desk.chart.places.items) }
+    ensures adds { OnOk result (parts.new.adds.items ≡ map
+        (λ t. slice_index_or (map (added_by count) parts.old.desk.items.items) t count)
+        parts.new.taken.items) }
+    ensures room { (pairings : ℕ) → HasTakeRoom pairings parts.old
+        → HasTakeRoom pairings parts.new }
+    ensures calm { (pairings : ℕ) → HasTakeRoom pairings parts.old
+        → length parts.old.desk.chart.places.items ≤ pairings + 62
+        → length parts.old.desk.items.items ≤ pairings + 62 → IsErr result → ⊥ }
 {
     let places = parts.desk.chart.places.len() as u32;
     join_choices(&mut parts.arcs, &mut parts.taken, &parts.desk.chart, places)?;
@@ -149,13 +161,22 @@ pub(crate) fn fill_takes<const N: usize>(
     requires windows { length lens.now.windows ≤ N }
     requires in_range { N ≤ 4096 }
     ensures graph { IfOk result (λ e. IsGraph e.places parts.new.arcs.items) }
-    ensures stands { IfOk result (λ e. StandsByArcs take_extend take_done (record { places = e.places; start = e.start; end = e.end; arcs = parts.new.arcs.items }) parts.new.adds.items problem.now member goal.now node.now lens.now weights.now) }
-    ensures caps { OnOk result ((number : ℕ) (arc : Arc (TakeStepOf N)) → slice_get parts.new.arcs.items number ≡ Some arc → arc.step.0.cap ≡ high_of problem.now member) }
-    ensures few { OnOk result (length parts.new.arcs.items ≤ 2 * item_count problem.now member lens.now + 1) }
+    ensures stands { IfOk result (λ e. StandsByArcs take_extend take_done
+        (record { places = e.places; start = e.start; end = e.end; arcs = parts.new.arcs.items })
+        parts.new.adds.items problem.now member goal.now node.now lens.now weights.now) }
+    ensures caps { OnOk result ((number : ℕ) (arc : Arc (TakeStepOf N))
+        → slice_get parts.new.arcs.items number ≡ Some arc
+        → arc.step.0.cap ≡ high_of problem.now member) }
+    ensures few { OnOk result (length parts.new.arcs.items
+        ≤ 2 * item_count problem.now member lens.now + 1) }
     ensures places { IfOk result (λ e. e.places ≡ item_count problem.now member lens.now + 2) }
-    ensures labels { IfOk result (λ e. IsHourLens lens.now → FewApart take_below take_extend e.start parts.new.arcs.items (256 * (length problem.now.base.pairings + 1) * (high_of problem.now member / 60 + 1))) }
-    ensures room { (pairings : ℕ) → HasTakeRoom pairings parts.old → HasTakeRoom pairings parts.new }
-    ensures calm { (pairings : ℕ) → length problem.now.base.pairings ≤ pairings → HasTakeRoom pairings parts.old → IsErr result → ⊥ }
+    ensures labels { IfOk result (λ e. IsHourLens lens.now
+        → FewApart take_below take_extend e.start parts.new.arcs.items
+        (256 * (length problem.now.base.pairings + 1) * (high_of problem.now member / 60 + 1))) }
+    ensures room { (pairings : ℕ) → HasTakeRoom pairings parts.old
+        → HasTakeRoom pairings parts.new }
+    ensures calm { (pairings : ℕ) → length problem.now.base.pairings ≤ pairings
+        → HasTakeRoom pairings parts.old → IsErr result → ⊥ }
 {
     fill_chart::<N>(alloc, &mut parts.desk, problem, member, node, lens, weights)?;
     let places = fill_arcs::<N>(parts, problem.base.pairings.len() as u32)?;
@@ -185,10 +206,15 @@ pub fn take_graph<const N: usize>(
     requires small { AreSmallWeights weights.now }
     requires windows { length lens.now.windows ≤ N }
     requires in_range { N ≤ 4096 }
-    ensures stands { IfOk result (λ g. StandsByArcs take_extend take_done g.graph g.adds problem.now member goal.now node.now lens.now weights.now) }
-    ensures caps { IfOk result (λ g. (number : ℕ) (arc : Arc (TakeStepOf N)) → slice_get g.graph.arcs number ≡ Some arc → arc.step.0.cap ≡ high_of problem.now member) }
-    ensures few { IfOk result (λ g. length g.graph.arcs ≤ 2 * item_count problem.now member lens.now + 1) }
-    ensures labels { IfOk result (λ g. IsHourLens lens.now → FewApart take_below take_extend g.graph.start g.graph.arcs (256 * (length problem.now.base.pairings + 1) * (high_of problem.now member / 60 + 1))) }
+    ensures stands { IfOk result (λ g. StandsByArcs take_extend take_done g.graph g.adds problem.now
+        member goal.now node.now lens.now weights.now) }
+    ensures caps { IfOk result (λ g. (number : ℕ) (arc : Arc (TakeStepOf N))
+        → slice_get g.graph.arcs number ≡ Some arc → arc.step.0.cap ≡ high_of problem.now member) }
+    ensures few { IfOk result (λ g. length g.graph.arcs
+        ≤ 2 * item_count problem.now member lens.now + 1) }
+    ensures labels { IfOk result (λ g. IsHourLens lens.now
+        → FewApart take_below take_extend g.graph.start g.graph.arcs
+        (256 * (length problem.now.base.pairings + 1) * (high_of problem.now member / 60 + 1))) }
 {
     let mut parts = TakeParts::<N>::bare(alloc);
     let ends = fill_takes::<N>(

@@ -26,7 +26,9 @@ fn window_breach(
     requires forms { All IsEvent events.now }
     requires inside { EndsBy (horizon_end horizon.now) events.now }
     requires apart { HasFlightsApart events.now }
-    ensures over { MatchOption result (KeepsWindows (is_counted minutes events.now) width limit (horizon_end horizon.now)) (IsOver (is_counted minutes events.now) width limit (horizon_end horizon.now)) }
+    ensures over { MatchOption result (KeepsWindows (is_counted minutes events.now) width limit
+        (horizon_end horizon.now)) (IsOver (is_counted minutes events.now) width limit
+        (horizon_end horizon.now)) }
 {
     let peak = window_peak(events, minutes, width, horizon);
     if peak.total > limit {
@@ -40,7 +42,9 @@ fn window_breach(
 fn year_breach(events: &[Event], limit: u32, horizon: &Horizon) -> Option<u32>
     requires forms { All IsEvent events.now }
     requires apart { HasFlightsApart events.now }
-    ensures over { MatchOption result (KeepsYears (is_flying_minute events.now) limit (month_days horizon.now)) (IsYearOver (is_flying_minute events.now) limit (month_days horizon.now)) }
+    ensures over { MatchOption result (KeepsYears (is_flying_minute events.now) limit
+        (month_days horizon.now)) (IsYearOver (is_flying_minute events.now) limit
+        (month_days horizon.now)) }
 {
     let peak = year_peak(events, horizon);
     if peak.total > limit {
@@ -55,7 +59,8 @@ fn year_breach(events: &[Event], limit: u32, horizon: &Horizon) -> Option<u32>
 pub fn breach(events: &[Event], horizon: &Horizon) -> Option<Breach>
     requires timeline { IsTimeline events.now }
     requires inside { EndsBy (horizon_end horizon.now) events.now }
-    ensures first { MatchOption result (KeepsLimits events.now (month_days horizon.now)) (IsFirstBreach events.now (month_days horizon.now)) }
+    ensures first { MatchOption result (KeepsLimits events.now (month_days horizon.now))
+        (IsFirstBreach events.now (month_days horizon.now)) }
     ensures broken { IsSome result → ¬ (KeepsLimits events.now (month_days horizon.now)) }
 {
     if let Some(report) = rest_breach(events) {
