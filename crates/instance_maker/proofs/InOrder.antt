@@ -11,6 +11,11 @@ pub below_limit : (k state : ℕ) → 1 ≤ k → (below k state).0 < k
 unfolding below
 below_limit k state some = mod_below (after state / 2 ^ 33) k (omega arith)
 
+-- what 7 draws first, of 31 bits
+pub first_of_seven : (below (2 ^ 31) 7).0 ≡ 1059165278
+unfolding below after
+first_of_seven = refl
+
 pub in_order_length : {A : Type 0} (draw : ℕ → Draw A) (n state : ℕ) → length (in_order draw n state).0 ≡ n
 unfolding in_order
 in_order_length draw zero state = refl
