@@ -21,6 +21,3 @@ pub use printing::weekday_word;
 pub use reading::read_bids;
 pub use text::{print_bids, put_bid};
 pub use writing::put_date;
-
-#[cfg(test)]
-mod tests;

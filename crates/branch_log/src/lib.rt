@@ -3,8 +3,6 @@
 
 mod closer;
 mod ledger;
-#[cfg(test)]
-mod tests;
 
 pub use closer::{Closer, Verdict};
 pub use ledger::Ledger;

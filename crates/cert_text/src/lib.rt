@@ -19,6 +19,3 @@ pub use limits::{
 };
 pub use printing::print_certificate;
 pub use reading::read_certificate;
-
-#[cfg(test)]
-mod tests;

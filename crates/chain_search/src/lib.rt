@@ -39,6 +39,3 @@ pub use search::{Climb, Ended, climb_above};
 pub use shifts::Shift;
 pub use table::{CoarseRest, coarse_rest};
 pub use ways::Ways;
-
-#[cfg(test)]
-mod tests;

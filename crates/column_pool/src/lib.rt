@@ -7,6 +7,3 @@ mod lines;
 mod pool;
 
 pub use pool::Pool;
-
-#[cfg(test)]
-mod tests;

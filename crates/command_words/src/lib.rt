@@ -5,8 +5,6 @@ mod command;
 mod grammar;
 mod number;
 mod spelling;
-#[cfg(test)]
-mod tests;
 
 pub use command::{Command, Sizes};
 pub use number::read_long;

@@ -13,6 +13,3 @@ mod writing;
 pub use laws::flights_laws;
 pub use reading::read_members;
 pub use writing::{MemberTexts, put_members};
-
-#[cfg(test)]
-mod tests;

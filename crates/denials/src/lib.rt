@@ -11,8 +11,3 @@ mod places;
 
 pub use explained::Explained;
 pub use members::explain;
-
-#[cfg(test)]
-mod choice_tests;
-#[cfg(test)]
-mod tests;

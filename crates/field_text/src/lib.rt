@@ -28,6 +28,3 @@ pub use time::{moment_of, read_clock, read_day, read_moment};
 pub use token::{Token, TokenFault, tokens};
 pub use word::{read_name, read_station, station_of};
 pub use writing::{put_bytes, put_clock, put_day, put_minutes, put_moment, put_number};
-
-#[cfg(test)]
-mod tests;

@@ -8,8 +8,6 @@ mod lists;
 mod month;
 mod names;
 mod pairings;
-#[cfg(test)]
-mod tests;
 
 pub use laws::made_months_are_as_asked;
 pub use month::make;

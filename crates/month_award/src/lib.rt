@@ -3,8 +3,6 @@
 
 mod month;
 mod outcome;
-#[cfg(test)]
-mod tests;
 
 pub use month::award_month;
 pub use outcome::{AwardedMonth, MonthAward, UnfillableMonth};

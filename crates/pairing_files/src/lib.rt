@@ -13,6 +13,3 @@ mod tables;
 
 pub use printer::{PairingTexts, put_pairings};
 pub use reader::read_pairings;
-
-#[cfg(test)]
-mod tests;

@@ -8,8 +8,6 @@ mod past;
 mod peak;
 mod rest;
 mod search;
-#[cfg(test)]
-mod tests;
 mod year;
 
 pub use broken::Breach;

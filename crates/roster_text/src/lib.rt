@@ -21,8 +21,3 @@ pub use reading::read_roster;
 pub use reason_fault::{ReasonTextCode, ReasonTextFault};
 pub use reason_printing::print_reasons;
 pub use reason_reading::read_reasons;
-
-#[cfg(test)]
-mod month_tests;
-#[cfg(test)]
-mod tests;

@@ -10,6 +10,3 @@ mod writing;
 pub use fault::{Key, RuleFault};
 pub use reading::read_rules;
 pub use writing::put_rules;
-
-#[cfg(test)]
-mod tests;

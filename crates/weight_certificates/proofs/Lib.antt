@@ -6,5 +6,4 @@ pub mod Shapes
 pub mod Evened
 pub mod Raised
 pub mod OpenOrWhole
-pub mod Months
 pub mod ColumnSteps

@@ -16,6 +16,3 @@ mod shares;
 mod trials;
 
 pub use closer::Rounds;
-
-#[cfg(test)]
-mod tests;

@@ -1,4 +1,0 @@
-use Rattle.chain_search.proofs.tests.climbed.Given as goal
-
-abbrev pub ghosts-climbed_from : goal.ghosts-climbed_from
-ghosts-climbed_from g a = record { name = a.blank.name; parts = a.blank.parts }

@@ -1,4 +1,0 @@
-use Rattle.line_generator.proofs.tests.best_of.Given as goal
-
-abbrev pub ghosts-best_from : goal.ghosts-best_from
-ghosts-best_from a = record { name = a.blank.name; parts = a.blank.parts }

@@ -1,4 +1,0 @@
-use Rattle.line_generator.proofs.tests.told.Given as goal
-
-abbrev pub ghosts-told_from : goal.ghosts-told_from
-ghosts-told_from a = record { name = a.blank.name; parts = a.blank.parts }

@@ -1,0 +1,13 @@
+//! Worked rows of priced lines, of pools, of closers and of whole awards.
+#![tactic(auto)]
+
+#[cfg(test)]
+mod awards;
+#[cfg(test)]
+mod closers;
+#[cfg(test)]
+mod june;
+#[cfg(test)]
+mod lines;
+#[cfg(test)]
+mod pools;

@@ -1,4 +1,0 @@
-use Rattle.roster_text.proofs.tests.june.Goals as goal
-
-pub month-requires-clause-who : goal.month-requires-clause-who
-month-requires-clause-who c = c.member.ensures.form c.in-Ok.horizon
