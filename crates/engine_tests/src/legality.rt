@@ -9,7 +9,6 @@ use line_legality::{Illegal, legal};
 use roster_model::{Line, Problem};
 use std::alloc::Global;
 use std::process::Abort;
-use std::test::Fail;
 
 /// The first minute that is looked at, but for flying in a year.
 const FIRST: u32 = 475_200;
@@ -27,17 +26,17 @@ struct Minutes {
 }
 
 impl Minutes {
-    fn new(alloc: Global, end: u32) -> Result<Minutes, Fail> {
+    fn new(rt: &impl Abort, alloc: Global, end: u32) -> Minutes {
         let end = end.saturating_sub(FIRST) as usize;
-        Ok(Minutes {
-            occupied: vec![in alloc; 0; end]?,
-            busy: vec![in alloc; 0; end]?,
-            reports: vec![in alloc; 0; end]?,
-            duty: vec![in alloc; 0; end]?,
-            period: vec![in alloc; 0; end]?,
-            flying: vec![in alloc; 0; end]?,
-            days: vec![in alloc; 0; 403]?,
-        })
+        Minutes {
+            occupied: vec![in alloc; 0; end].expect(rt, "memory"),
+            busy: vec![in alloc; 0; end].expect(rt, "memory"),
+            reports: vec![in alloc; 0; end].expect(rt, "memory"),
+            duty: vec![in alloc; 0; end].expect(rt, "memory"),
+            period: vec![in alloc; 0; end].expect(rt, "memory"),
+            flying: vec![in alloc; 0; end].expect(rt, "memory"),
+            days: vec![in alloc; 0; 403].expect(rt, "memory"),
+        }
     }
 }
 
@@ -112,17 +111,17 @@ fn mark_pairing(minutes: &mut Minutes, pairing: &Pairing) {
 }
 
 /// For each minute, how many minutes before it are counted.
-fn totals(alloc: Global, counts: &[u32]) -> Result<Vec<u32>, Fail> {
+fn totals(rt: &impl Abort, alloc: Global, counts: &[u32]) -> Vec<u32> {
     let mut totals = Vec::new(alloc);
     let mut total: u32 = 0;
-    totals.push(total)?;
+    totals.push(total).expect(rt, "memory");
     for count in counts {
         if *count > 0 {
             total = total.saturating_add(1);
         }
-        totals.push(total)?;
+        totals.push(total).expect(rt, "memory");
     }
-    Ok(totals)
+    totals
 }
 
 /// What stands at a minute, or at the last one.
@@ -231,41 +230,42 @@ fn free_days(busy: &[u32], days: u32) -> u32 {
 }
 
 /// The first limit of Part 117 that the counted minutes break.
-fn first_breach(alloc: Global, minutes: &Minutes, days: u32) -> Result<Option<Illegal>, Fail> {
+fn first_breach(rt: &impl Abort, alloc: Global, minutes: &Minutes, days: u32) -> Option<Illegal> {
     if let Some(minute) = shared(&minutes.occupied) {
-        return Ok(Some(Illegal::Overlap(minute)));
+        return Some(Illegal::Overlap(minute));
     }
-    let duty = totals(alloc, &minutes.duty)?;
+    let duty = totals(rt, alloc, &minutes.duty);
     if let Some(report) = unfit_report(&minutes.reports, &duty, true) {
-        return Ok(Some(Illegal::Rest(report)));
+        return Some(Illegal::Rest(report));
     }
     if let Some(report) = unfit_report(&minutes.reports, &duty, false) {
-        return Ok(Some(Illegal::Free30(report)));
+        return Some(Illegal::Free30(report));
     }
     let end = 525_600 + 1440 * days.min(31) + 10_080;
-    let flying = totals(alloc, &minutes.flying)?;
+    let flying = totals(rt, alloc, &minutes.flying);
     if let Some(start) = window_above(&flying, 40_320, 6000, end) {
-        return Ok(Some(Illegal::Flight672(start)));
+        return Some(Illegal::Flight672(start));
     }
-    let period = totals(alloc, &minutes.period)?;
+    let period = totals(rt, alloc, &minutes.period);
     if let Some(start) = window_above(&period, 10_080, 3600, end) {
-        return Ok(Some(Illegal::Duty168(start)));
+        return Some(Illegal::Duty168(start));
     }
     if let Some(start) = window_above(&period, 40_320, 11_400, end) {
-        return Ok(Some(Illegal::Duty672(start)));
+        return Some(Illegal::Duty672(start));
     }
-    Ok(year_above(&minutes.days, 60_000, days).map(Illegal::Flight365))
+    year_above(&minutes.days, 60_000, days).map(Illegal::Flight365)
 }
 
 /// The first rule that a member's line breaks, counted minute by minute.
 fn counted(
+    rt: &impl Abort,
     alloc: Global,
     problem: &Problem,
     member: &Member,
     line: &[u32],
-) -> Result<Result<(), Illegal>, Fail> {
+) -> Result<(), Illegal> {
     let rules = &problem.base.rules;
-    let mut minutes = Minutes::new(alloc, rules.horizon.end())?;
+    let mut minutes = Minutes::new(rt, alloc, rules.horizon.end());
     let mut credit: u32 = 0;
     mark_member(&mut minutes, member);
     for event in member.fixed.as_slice() {
@@ -277,17 +277,17 @@ fn counted(
             credit = credit.saturating_add(pairing.credit);
         }
     }
-    if let Some(breach) = first_breach(alloc, &minutes, rules.horizon.days())? {
-        return Ok(Err(breach));
+    if let Some(breach) = first_breach(rt, alloc, &minutes, rules.horizon.days()) {
+        return Err(breach);
     }
     if credit < member.low || member.high < credit {
-        return Ok(Err(Illegal::Credit(credit)));
+        return Err(Illegal::Credit(credit));
     }
-    let off = free_days(&totals(alloc, &minutes.busy)?, rules.horizon.days());
+    let off = free_days(&totals(rt, alloc, &minutes.busy), rules.horizon.days());
     if off < rules.days_off {
-        return Ok(Err(Illegal::DaysOff(off)));
+        return Err(Illegal::DaysOff(off));
     }
-    Ok(Ok(()))
+    Ok(())
 }
 
 /// The code of the first rule that fails, 0 for none.
@@ -308,14 +308,14 @@ fn code_of(answer: &Result<(), Illegal>) -> u32 {
 }
 
 /// The line of the pairings whose bits are set.
-fn line_of(rt: &impl Abort, alloc: Global, bits: u32) -> Result<Line, Fail> {
+fn line_of(rt: &impl Abort, alloc: Global, bits: u32) -> Line {
     let mut numbers = Vec::new(alloc);
     for number in 0..8 {
         if bits >> number & 1 == 1 {
-            numbers.push(number)?;
+            numbers.push(number).expect(rt, "memory");
         }
     }
-    Ok(Line::new(List::from_vec(numbers)).expect(rt, "it ascends"))
+    Line::new(List::from_vec(numbers)).expect(rt, "it ascends")
 }
 
 fn is_in_range(line: &[u32], pairings: usize) -> bool
@@ -325,62 +325,48 @@ fn is_in_range(line: &[u32], pairings: usize) -> bool
 }
 
 /// Judges the member's line of these bits in both ways. Gives the code.
-fn assert_counted(
-    rt: &impl Abort,
-    alloc: Global,
-    problem: &Problem,
-    bits: u32,
-) -> Result<u32, Fail> {
+fn assert_counted(rt: &impl Abort, alloc: Global, problem: &Problem, bits: u32) -> u32 {
     let members = problem.base.members.as_slice();
     assert_eq!(rt; members.len(), 1);
-    let line = line_of(rt, alloc, bits)?;
+    let line = line_of(rt, alloc, bits);
     let in_range = is_in_range(line.pairings(), problem.base.pairings.len());
     assert!(rt; in_range);
     let answer = legal(alloc, problem, 0, &line);
-    let due = counted(alloc, problem, &members[0], line.pairings())?;
+    let due = counted(rt, alloc, problem, &members[0], line.pairings());
     assert_eq!(rt; answer, due, "pairings {bits:b}");
-    Ok(code_of(&answer))
+    code_of(&answer)
 }
 
 /// Judges as many lines as are asked for, each of other pairings. Adds the codes that are new.
-fn put_codes(
-    rt: &impl Abort,
-    alloc: Global,
-    problem: &Problem,
-    lines: u32,
-    seen: &mut Vec<u32>,
-) -> Result<(), Fail> {
+fn put_codes(rt: &impl Abort, alloc: Global, problem: &Problem, lines: u32, seen: &mut Vec<u32>) {
     let mut bits: u32 = 0;
     for _line in 0..lines {
         bits = (bits.wrapping_mul(5).wrapping_add(5)) % 256;
-        let code = assert_counted(rt, alloc, problem, bits)?;
+        let code = assert_counted(rt, alloc, problem, bits);
         if !seen.contains(&code) {
-            seen.push(code)?;
+            seen.push(code).expect(rt, "memory");
         }
     }
-    Ok(())
 }
 
 #[test]
-fn lines_are_judged_as_counted(rt: HostRuntime) -> Result<(), Fail> {
+fn lines_are_judged_as_counted(rt: HostRuntime) {
     let alloc = rt.alloc();
     let mut seen = Vec::new(alloc);
-    let problem = month_with(&rt, alloc, &EIGHT_PAIRINGS)?;
-    put_codes(&rt, alloc, &problem, 48, &mut seen)?;
+    let problem = month_with(&rt, alloc, &EIGHT_PAIRINGS);
+    put_codes(&rt, alloc, &problem, 48, &mut seen);
     assert_eq!(rt; seen.len(), 9);
-    Ok(())
 }
 
 #[test]
-fn years_are_judged_as_counted(rt: HostRuntime) -> Result<(), Fail> {
+fn years_are_judged_as_counted(rt: HostRuntime) {
     let alloc = rt.alloc();
     let mut seen = Vec::new(alloc);
-    let history = thousand_hours(alloc)?;
+    let history = thousand_hours(&rt, alloc);
     let [rules, pairings, duties, legs, crew, _, fixed, bids] = EIGHT_PAIRINGS;
     let history = ("history.csv", history.as_str());
     let files = [rules, pairings, duties, legs, crew, history, fixed, bids];
-    let problem = month_with(&rt, alloc, &files)?;
-    put_codes(&rt, alloc, &problem, 16, &mut seen)?;
+    let problem = month_with(&rt, alloc, &files);
+    put_codes(&rt, alloc, &problem, 16, &mut seen);
     assert!(rt; seen.contains(&7));
-    Ok(())
 }
