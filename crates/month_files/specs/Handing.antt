@@ -1,7 +1,8 @@
 -- What the reads of a month's files add to the log of a shelf.
-use Rattle.std.specs.Prelude.{ℕ, [], ◌∷◌, ◌++◌, Result, Ok, Err, Vec}
+use Rattle.std.specs.Prelude.{◌≡◌, ℕ, List, [], ◌∷◌, ◌++◌, map, take, Result, Ok, Err, Vec}
 use Rattle.std.specs.declared.alloc.Global.{Global}
-use Rattle.shelf.specs.Logs.{Entries}
+use Rattle.shelf.specs.Files.{Files}
+use Rattle.shelf.specs.Logs.{Entries, holding}
 use Rattle.month_files.specs.declared.file.File.{File}
 use Rattle.month_files.specs.declared.file.File.TheVariants.{Rules, Pairings, Duties, Legs, Crew, History, Fixed, Bids}
 use Rattle.month_files.specs.declared.unread.Unread.{Unread}
@@ -18,3 +19,12 @@ abbrev pub input_texts : Inputs → Entries
 input_texts t =
     (name_of Rules, t.rules) ∷ (name_of Pairings, t.pairings) ∷ (name_of Duties, t.duties) ∷ (name_of Legs, t.legs)
     ∷ (name_of Crew, t.crew) ∷ (name_of History, t.history) ∷ (name_of Fixed, t.fixed) ∷ (name_of Bids, t.bids) ∷ []
+
+-- the reads handed in these texts, of the first so many files of this order, each once and in order; and P holds of files
+-- with them
+pub record FromReads (order : List File) (old new : Entries) (P : Files → Type 0) : Type 0 where
+  pub texts : Entries
+  pub logged : new ≡ old ++ texts
+  pub count : ℕ
+  pub names : map (λ x. x.0) texts ≡ take count (map name_of order)
+  pub found : P (holding texts)

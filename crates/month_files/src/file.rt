@@ -5,7 +5,8 @@ ghost use Rattle.month_files.specs.FileNames.{name_of, limit_of};
 
 use std::fmt;
 
-/// A file of a folder: the eight inputs in the order in which they are read, and what is judged.
+/// A file of a folder: the eight inputs in the order in which they are read, what is judged, trades, and what is asked and
+/// written of other bids and of open time.
 #[derive(Clone, Copy, Debug, PartialEq, Eq)]
 pub enum File {
     Rules,
@@ -19,6 +20,13 @@ pub enum File {
     Certificate,
     Roster,
     Reasons,
+    Trades,
+    OtherBids,
+    OtherRoster,
+    OpenNone,
+    OpenCertificate,
+    OpenReasons,
+    OpenRoster,
 }
 
 impl File {
@@ -39,6 +47,13 @@ impl File {
             File::Certificate => "certificate.txt",
             File::Roster => "roster.csv",
             File::Reasons => "reasons.txt",
+            File::Trades => "trades.txt",
+            File::OtherBids => "bids2.txt",
+            File::OtherRoster => "whatif-roster.csv",
+            File::OpenNone => "open-none.txt",
+            File::OpenCertificate => "open-certificate.txt",
+            File::OpenReasons => "open-reasons.txt",
+            File::OpenRoster => "open-roster.csv",
         }
     }
 
@@ -47,7 +62,7 @@ impl File {
         ensures limit { result ≡ limit_of self }
     {
         match self {
-            File::Certificate => 2_147_483_648,
+            File::Certificate | File::OpenNone | File::OpenCertificate => 2_147_483_648,
             _ => 67_108_864,
         }
     }
