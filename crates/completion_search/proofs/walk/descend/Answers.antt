@@ -12,10 +12,9 @@ close-requires-clause-node g c =
     IsNode-stands c.args.problem.now c.loop-is_open.ledger.entries c.args.number c.loop-is_open.node c.loop-is_open.parents.items
     (c.loop-is_open.invariant.here c.loop-is_open-test.true).stands
 
-pub fly-requires-clause-undecided : goal.fly-requires-clause-undecided
-fly-requires-clause-undecided g c =
-    let at = c.loop-is_open.invariant.here c.loop-is_open-test.true in
-    (rw c.in-Branch.is at c.in_ok-roster.ensures.honest).pair.undecided
+pub fly-requires : goal.fly-requires
+fly-requires g c =
+    let h = rw c.in-Branch.is at c.in_ok-roster.ensures.honest in record { undecided = h.pair.undecided }
 
 pub loop-is_open-init : goal.loop-is_open-init
 loop-is_open-init g c = record {
