@@ -55,6 +55,18 @@ def copied(example):
         yield folder
 
 
+@contextlib.contextmanager
+def small_disk(size):
+    """A disk in memory, or nothing where none can be had."""
+    with tempfile.TemporaryDirectory() as made:
+        mount = subprocess.run(["mount", "-t", "tmpfs", "-o", f"size={size}", "tmpfs", made], capture_output=True)
+        try:
+            yield None if mount.returncode else made
+        finally:
+            if mount.returncode == 0:
+                subprocess.run(["umount", made], check=True)
+
+
 def contents(folder):
     """What the files of a folder hold; nothing of what is no plain file."""
     return {path.name: path.read_bytes() for path in sorted(folder.iterdir()) if path.is_file()}

@@ -4,7 +4,8 @@ ghost use Rattle.shelf.specs.Tallies.{no_faults};
 
 use crate::fault::ShelfFault;
 use crate::log::Log;
-use crate::streams::{Unread, read_rest, write_rest};
+use crate::replace::{replace, write_through};
+use crate::streams::{Unread, read_rest};
 use crate::tally::Tally;
 use crate::traits::Shelf;
 use std::alloc::{AllocError, Global};
@@ -12,7 +13,8 @@ use std::fs::Files;
 use std::io::ErrorKind;
 use std::{fs, io};
 
-/// Reads and writes the files of one folder. It tells nothing of what they hold.
+/// Reads and writes the files of one folder. It tells nothing of what they hold. A plain file is replaced when its new
+/// bytes lie whole beside it, under its name and `.new`: a stop in the middle leaves the old bytes or the new ones.
 #[derive(Drop)]
 pub struct FolderShelf<'a, R> {
     files: &'a R,
@@ -43,6 +45,19 @@ impl<'a, R: Files> FolderShelf<'a, R> {
             return String::from_str(alloc, name);
         }
         format!(in alloc; "{}/{}", self.folder, name)
+    }
+
+    // Gives what lies there these bytes.
+    fn fill(&self, path: &str, beside: &str, bytes: &[u8]) -> io::Result<()> {
+        match fs::symlink_metadata(self.files, path) {
+            Ok(found) if found.is_file() => {
+                replace(self.files, path, beside, Some(found.permissions()), bytes)
+            }
+            Err(error) if error.kind() == ErrorKind::NotFound => {
+                replace(self.files, path, beside, None, bytes)
+            }
+            _ => write_through(self.files, path, bytes),
+        }
     }
 }
 
@@ -92,11 +107,8 @@ impl<R: Files> Shelf for FolderShelf<'_, R> {
 
     fn write(&mut self, alloc: Global, name: &str, bytes: &[u8]) -> Result<(), ShelfFault> {
         let path = self.path(alloc, name)?;
-        let wrote = match fs::create(self.files, path.as_str()) {
-            Ok(mut file) => write_rest(&mut file, bytes),
-            Err(error) => Err(error),
-        };
-        match wrote {
+        let beside = format!(in alloc; "{}.new", path)?;
+        match self.fill(path.as_str(), beside.as_str(), bytes) {
             Ok(()) => Ok(()),
             Err(_) => {
                 self.tally.write_failed(name);
@@ -117,7 +129,12 @@ mod tests {
         let alloc = rt.alloc();
         let mut shelf = FolderShelf::new(&rt, String::from_str(alloc, ".")?);
         assert_eq!(rt; shelf.read(alloc, "a", 9).err(), Some(ShelfFault::Missing));
+        shelf.write(alloc, "a", b"before")?;
         shelf.write(alloc, "a", b"0123456789")?;
+        assert_eq!(rt;
+            shelf.read(alloc, "a.new", 9).err(),
+            Some(ShelfFault::Missing)
+        );
         assert_eq!(rt;
             shelf.read(alloc, "a", 10)?.as_slice(),
             b"0123456789".as_slice()
@@ -134,7 +151,7 @@ mod tests {
         let tally = &shelf.tally;
         assert_eq!(rt;
             (tally.faults, tally.fails, tally.misses, tally.longs),
-            (1, 1, 1, 1)
+            (1, 1, 2, 1)
         );
         Ok(())
     }

@@ -8,6 +8,7 @@ mod log;
 mod memory_shelf;
 mod memory_sink;
 mod out_sink;
+mod replace;
 mod sink;
 mod streams;
 mod tally;
