@@ -13,9 +13,8 @@ use label_lattice::Steps;
 use line_generator::{
     BestFault, BestInFault, Generator, Over, PricedLine, best, best_over, heaviest, heaviest_over,
 };
-use line_lens::{
-    LensFault, asks_nothing, lens_line, line_graph, narrow_lens, standard_lens, take_graph,
-};
+use line_lens::{LensFault, asks_nothing, lens_line, line_graph, narrow_lens, standard_lens};
+use take_graphs::take_graph;
 use node_guesses::are_small;
 use roster_model::{Decision, Goal, Lens, Node, Problem, Window, WindowKind};
 use std::alloc::Global;

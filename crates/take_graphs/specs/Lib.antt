@@ -1,0 +1,5 @@
+pub mod Takes
+pub mod ArcLines
+pub mod TakeCharts
+pub mod TakeLabels
+pub mod TakeRooms
