@@ -3,3 +3,4 @@ pub mod ArcLines
 pub mod TakeCharts
 pub mod TakeLabels
 pub mod TakeRooms
+pub mod DrawnGraphs

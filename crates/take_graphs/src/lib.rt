@@ -2,9 +2,9 @@
 #![tactic(auto)]
 
 mod choices;
+mod start;
 mod take_desk;
 mod take_lines;
-mod take_start;
 mod takes;
 
 pub use take_desk::TakeDesk;

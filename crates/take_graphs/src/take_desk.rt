@@ -9,6 +9,7 @@ ghost use Rattle.roster_model.specs.Lenses.{IsLens};
 ghost use Rattle.line_items.specs.Items.{item_count};
 ghost use Rattle.line_lens.specs.LineGraphs.{IsHourLens};
 ghost use Rattle.take_graphs.specs.ArcLines.{StandsByArcs};
+ghost use Rattle.take_graphs.specs.DrawnGraphs.{IsDrawn};
 ghost use Rattle.take_graphs.specs.TakeLabels.{TakeStepOf, take_below, take_done, take_extend};
 ghost use Rattle.roster_model.specs.Weights.{AreSmallWeights};
 
@@ -81,6 +82,13 @@ impl<const N: usize> TakeDesk<N> {
               arcs = self.new.arcs;
             }) self.new.adds problem.now member goal.now node.now lens.now
             weights.now }
+        ensures drawn { IsDrawn problem.now member goal.now node.now lens.now weights.now
+            (record {
+              places = result.places;
+              start = result.start;
+              end = result.end;
+              arcs = self.new.arcs;
+            }) self.new.adds }
         ensures caps { (number : ℕ) (arc : Arc (TakeStepOf N))
             → slice_get self.new.arcs number ≡ Some arc
             → arc.step.0.cap ≡ high_of problem.now member }

@@ -10,13 +10,14 @@ ghost use Rattle.line_lens.specs.Charts.{chart_gain, chart_may, chart_must, char
 ghost use Rattle.take_graphs.specs.TakeCharts.{chart_take};
 ghost use Rattle.line_lens.specs.LineGraphs.{IsHourLens, added_by};
 ghost use Rattle.take_graphs.specs.ArcLines.{StandsByArcs};
+ghost use Rattle.take_graphs.specs.DrawnGraphs.{IsDrawn};
 ghost use Rattle.take_graphs.specs.TakeRooms.{HasTakeRoom};
 ghost use Rattle.take_graphs.specs.Takes.{AreTakeArcs, passes_by, takes_by};
 ghost use Rattle.line_items.specs.Items.{item_count};
 ghost use Rattle.take_graphs.specs.TakeLabels.{TakeStepOf, take_below, take_done, take_extend};
 ghost use Rattle.roster_model.specs.Weights.{AreSmallWeights};
 
-use crate::take_start::take_start;
+use crate::start::take_start;
 use crate::takes::join_choices;
 use duty_calendar::{List, Memory};
 use label_lattice::{Daily, Mask, MaskEnd, Nights, Pair, Pause, Resource, Span, SpanEnd, Usage};
@@ -169,6 +170,13 @@ pub(crate) fn fill_takes<const N: usize>(
     ensures stands { IfOk result (λ e. StandsByArcs take_extend take_done
         (record { places = e.places; start = e.start; end = e.end; arcs = parts.new.arcs.items })
         parts.new.adds.items problem.now member goal.now node.now lens.now weights.now) }
+    ensures drawn { IfOk result (λ e. IsDrawn problem.now member goal.now node.now lens.now
+        weights.now (record {
+          places = e.places;
+          start = e.start;
+          end = e.end;
+          arcs = parts.new.arcs.items;
+        }) parts.new.adds.items) }
     ensures caps { OnOk result ((number : ℕ) (arc : Arc (TakeStepOf N))
         → slice_get parts.new.arcs.items number ≡ Some arc
         → arc.step.0.cap ≡ high_of problem.now member) }

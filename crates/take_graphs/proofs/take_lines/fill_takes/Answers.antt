@@ -77,6 +77,28 @@ returns-clause-stands g c =
     c.fill_arcs.new.parts.taken.items c.in_ok-places.ensures.arcs c.fill_arcs.new.parts.adds.items adds few in
     is.stands_for
 
+pub returns-clause-drawn : goal.returns-clause-drawn
+returns-clause-drawn g c =
+    let problem = c.args.problem.now in
+    let count : c.len.result ≡ length problem.base.pairings = omega arith in
+    let items = c.fill_chart.new.desk.items.items in
+    let adds : c.fill_arcs.new.parts.adds.items ≡ map (λ t. slice_index_or (map (added_by (length problem.base.pairings)) items) t (length problem.base.pairings)) c.fill_arcs.new.parts.taken.items =
+    c.in_ok-places.ensures.adds ∙ ap (λ (n : ℕ). map (λ t. slice_index_or (map (added_by n) items) t n) c.fill_arcs.new.parts.taken.items) count in
+    record {
+      items = items;
+      order = c.in_ok-fill_chart.ensures.items;
+      chart = c.fill_chart.new.desk.chart;
+      charted = c.in_ok-fill_chart.ensures.chart;
+      places = c.in_ok-places.ensures.places ∙ c.in_ok-fill_chart.ensures.chart.are.long;
+      taken = c.fill_arcs.new.parts.taken.items;
+      arcs = c.in_ok-places.ensures.arcs;
+      start_bits = c.take_start.ensures.bits;
+      start = c.take_start.ensures.start;
+      end_bids = c.end_label.ensures.bids;
+      end_is = c.end_label.ensures.end;
+      added = adds;
+    }
+
 pub returns-clause-few : goal.returns-clause-few
 returns-clause-few g c =
     let problem = c.args.problem.now in
