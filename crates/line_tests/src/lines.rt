@@ -11,16 +11,15 @@ use crate::june::{contest, first_line, month, one, pairings, single, tenth, two_
 use duty_calendar::{List, Memory, Pairing};
 use label_lattice::Steps;
 use line_generator::{
-    BestFault, BestInFault, Generator, Over, PricedLine, best, best_over, heaviest, heaviest_over,
+    BestFault, BestInFault, Generator, Over, PricedLine, are_small, best, best_over, heaviest,
+    heaviest_over,
 };
-use line_lens::{
-    LensFault, asks_nothing, lens_line, line_graph, narrow_lens, standard_lens, take_graph,
-};
-use node_guesses::are_small;
+use line_lens::{LensFault, asks_nothing, lens_line, line_graph, narrow_lens, standard_lens};
 use roster_model::{Decision, Goal, Lens, Node, Problem, Window, WindowKind};
 use std::alloc::Global;
 use std::marker::Brand;
 use std::sync::ledger::{Blank, Ledger};
+use take_graphs::take_graph;
 
 /// The month of one member without bids.
 fn alone(alloc: Global, pairings: List<Pairing>, low: u32, high: u32) -> Result<Problem, Memory>
