@@ -1,0 +1,3 @@
+pub mod TradeEnds
+pub mod Trade
+pub mod TradeTexts

@@ -1,0 +1,9 @@
+//! What each command over an award that stands does over the files of a folder: its answer as a value, with no text
+//! of it.
+#![tactic(auto)]
+
+mod trade_stop;
+mod trading;
+
+pub use trade_stop::{TradeStop, Traded, Untraded};
+pub use trading::trade;
