@@ -1,14 +1,14 @@
 -- How `trade` ends, from what its stages answer.
-use Rattle.std.proofs.Common.{◌≡◌, ◌≢◌, ℕ, ◌+◌, ◌≤◌, List, [], ◌∷◌, ◌++◌, map, take, length, Option, Some, Result, Ok, Err, refl, sym, ap, subst, ◌∙◌, arith}
+use Rattle.std.proofs.Common.{◌≡◌, ◌≢◌, ℕ, ◌+◌, List, [], ◌∷◌, ◌++◌, take, length, Option, Result, Ok, Err, refl, sym, ap, subst, ◌∙◌, arith, append_assoc}
 use Rattle.std.proofs.lemmas.List.{take_all}
 use Rattle.line_legality.specs.declared.shortfall.RosterFault.{RosterFault}
-use Rattle.line_legality.specs.declared.shortfall.RosterFault.TheVariants as fault
+use Rattle.line_legality.specs.declared.shortfall.RosterFault.TheVariants as shortfall
 use Rattle.line_legality.specs.Shortfalls.{IsFirstShortfall}
 use Rattle.shelf.specs.Files.{Files}
 use Rattle.shelf.specs.Logs.{Entries, holding}
 use Rattle.shelf.specs.declared.tally.Tally.{Tally}
 use Rattle.roster_model.specs.declared.problem.Problem.{Problem}
-use Rattle.roster_model.specs.Rosters.{IsComplete}
+use Rattle.roster_model.specs.Rosters.{IsComplete, scores_of}
 use Rattle.month_files.specs.declared.fault.BadInput.{BadInput}
 use Rattle.month_files.specs.declared.fault.BadInput.TheVariants as bad
 use Rattle.month_files.specs.declared.file.File.TheVariants.{Roster, Trades}
@@ -29,13 +29,13 @@ use Rattle.trade_desk.specs.declared.fault.TradeCode.TheVariants as code
 use Rattle.trade_desk.specs.declared.fault.TradeFault.{TradeFault}
 use Rattle.trade_desk.specs.declared.refusal.TradeVerdict.{TradeVerdict}
 use Rattle.trade_desk.specs.declared.trade.Trade.{Trade}
-use Rattle.trade_desk.specs.Desks.{left, StaysComplete}
+use Rattle.trade_desk.specs.Desks.{left, IsDesk, StaysComplete}
 use Rattle.trade_desk.specs.Reading.{trades_in, no_memory as no_room}
 use Rattle.desk_commands.specs.declared.trade_stop.TradeStop.{TradeStop}
 use Rattle.desk_commands.specs.declared.trade_stop.TradeStop.TheVariants as stop
 use Rattle.desk_commands.specs.declared.trade_stop.Traded.{Traded}
 use Rattle.desk_commands.specs.declared.trade_stop.Untraded.TheVariants as untraded
-use Rattle.desk_commands.specs.Trade.{Offered, offered_in, trading_order, HasRoster, IsDeskEnd, HasTraded, HasUntraded, HasUnwritten, IsBadOffer, IsTrading, IsTradingHanded}
+use Rattle.desk_commands.specs.Trade.{Offered, offered_in, roster_draft, trading_order, HasRoster, IsReadableRoster, IsTraded, IsDeskEnd, HasTraded, HasUntraded, HasUnwritten, IsBadOffer, IsTrading, IsTradingHanded}
 use Rattle.desk_commands.specs.TradeEnds.{unread_roster, incomplete_roster, unread_trades, TradeCause, trade_written}
 use Rattle.desk_commands.specs.TradeTexts.{offered_texts, AreBrief}
 use Rattle.desk_commands.proofs.Held.{held, inputs_held, then_ok}
@@ -54,14 +54,14 @@ module _ (problem : Problem) (offered : Offered) where
   refused_roster why text.Rows is h = h (λ e. let same : text.Rows ≡ text.NoMemory = sym is ∙ ap (λ (f : RosterTextFault). f.code) e in absurd cc)
 
   pub refused_incomplete : (roster : List (List ℕ)) → IsTextOf problem offered.roster roster → (why : RosterFault) → IsFirstShortfall problem roster why
-      → (why ≢ fault.NoMemory → ¬ (IsComplete problem roster)) → IsDeskEnd problem offered (Err (incomplete_roster why))
-  refused_incomplete roster read fault.NoMemory first no = tt
-  refused_incomplete roster read (fault.Line m why) first no =
-      let known : fault.Line m why ≢ fault.NoMemory = λ (e : fault.Line m why ≡ fault.NoMemory). absurd cc in
-      record { roster = roster; read = read; known = known; first = first; refused = no known }
-  refused_incomplete roster read (fault.Cover p count) first no =
-      let known : fault.Cover p count ≢ fault.NoMemory = λ (e : fault.Cover p count ≡ fault.NoMemory). absurd cc in
-      record { roster = roster; read = read; known = known; first = first; refused = no known }
+      → (why ≢ shortfall.NoMemory → ¬ (IsComplete problem roster)) → IsDeskEnd problem offered (Err (incomplete_roster why))
+  refused_incomplete roster read shortfall.NoMemory first wrong = tt
+  refused_incomplete roster read (shortfall.Line m why) first wrong =
+      let known : shortfall.Line m why ≢ shortfall.NoMemory = λ (e : shortfall.Line m why ≡ shortfall.NoMemory). absurd cc in
+      record { roster = roster; read = read; known = known; first = first; refused = wrong known }
+  refused_incomplete roster read (shortfall.Cover p count) first wrong =
+      let known : shortfall.Cover p count ≢ shortfall.NoMemory = λ (e : shortfall.Cover p count ≡ shortfall.NoMemory). absurd cc in
+      record { roster = roster; read = read; known = known; first = first; refused = wrong known }
 
   module _ (roster : List (List ℕ)) (before : HasRoster problem offered roster) where
     pub refused_trades : (why : TradeFault) (c : TradeCode) → why.code ≡ c → (why ≢ no_room → trades_in problem offered.trades ≡ Err why)
@@ -86,6 +86,24 @@ module _ (problem : Problem) (offered : Offered) where
       subst (IsComplete problem) (sym is)
       (subst (λ (vs : List TradeVerdict). IsComplete problem (left roster trades vs)) all_verdicts
       (subst (λ (ts : List Trade). IsComplete problem (left roster ts (take k verdicts))) all_trades (stays k)))
+
+  pub is_traded : (roster last : List (List ℕ)) → HasRoster problem offered roster → (trades listed : List Trade) (verdicts : List TradeVerdict) (traded : Traded)
+      → trades_in problem offered.trades ≡ Ok trades → listed ≡ trades → IsDesk problem roster listed last verdicts → StaysComplete problem roster listed verdicts
+      → traded.verdicts ≡ verdicts → traded.scores ≡ scores_of problem last → traded.drafts ≡ roster_draft problem last ∷ [] → IsReadableRoster problem last
+      → IsTraded problem offered traded
+  is_traded roster last before trades listed verdicts traded read same desk stays is scores drafts readable = record {
+    roster = roster;
+    before = before;
+    trades = trades;
+    listed = read;
+    last = last;
+    desk = subst (λ (vs : List TradeVerdict). IsDesk problem roster trades last vs) (sym is)
+        (subst (λ (ts : List Trade). IsDesk problem roster ts last verdicts) same desk);
+    complete = last_complete roster last listed verdicts stays desk.final;
+    scores_are = scores;
+    drafts_are = drafts;
+    readable = readable;
+  }
 
   -- an end that writes nothing
   pub stop_cause : (at : Tally) (s : TradeStop) → IsDeskEnd problem offered (Err s) → TradeCause at at (Err s)
@@ -154,3 +172,9 @@ pub handed_unwritten : (old new log : Entries) (traded : Traded) (u : Unwritten)
 handed_unwritten old new log traded u same stopped h =
     subst (λ (l : Entries). IsTradingHanded old l (Err (stop.Unwritten traded u))) (sym same)
     (record { texts = h.texts; logged = h.logged; count = h.count; names = h.names; found = record { found = h.found; stopped = stopped } })
+
+-- two texts are read behind others
+pub two_more : (old front one two all : Entries) (x y : List ℕ × List ℕ) → one ≡ old ++ front → two ≡ one ++ x ∷ [] → all ≡ two ++ y ∷ [] → all ≡ old ++ (front ++ x ∷ y ∷ [])
+two_more old front one two all x y e f g =
+    g ∙ ap (λ (l : Entries). l ++ y ∷ []) (f ∙ ap (λ (l : Entries). l ++ x ∷ []) e)
+    ∙ append_assoc (old ++ front) (x ∷ []) (y ∷ []) ∙ append_assoc old front (x ∷ y ∷ [])

@@ -1,7 +1,7 @@
 -- What `trade` finds in the files of a folder: verdicts on trades, and the roster that they leave.
 use Rattle.std.specs.Prelude.{◌≡◌, ◌≢◌, ◌≤◌, [], ◌∷◌, ℕ, List, length, Result, Ok, Err}
 use Rattle.line_legality.specs.declared.shortfall.RosterFault.{RosterFault}
-use Rattle.line_legality.specs.declared.shortfall.RosterFault.TheVariants as fault
+use Rattle.line_legality.specs.declared.shortfall.RosterFault.TheVariants as shortfall
 use Rattle.line_legality.specs.Shortfalls.{IsFirstShortfall}
 use Rattle.shelf.specs.Files.{Files}
 use Rattle.shelf.specs.Logs.{Entries}
@@ -56,7 +56,7 @@ pub record HasRoster (problem : Problem) (offered : Offered) (roster : List (Lis
 pub record IsIncomplete (problem : Problem) (offered : Offered) (why : RosterFault) : Type 0 where
   pub roster : List (List ℕ)
   pub read : IsTextOf problem offered.roster roster
-  pub known : why ≢ fault.NoMemory
+  pub known : why ≢ shortfall.NoMemory
   pub first : IsFirstShortfall problem roster why
   pub refused : ¬ (IsComplete problem roster)
 

@@ -2,7 +2,7 @@
 -- files an end comes with.
 use Rattle.std.specs.Prelude.{◌≡◌, Result, Ok, Err}
 use Rattle.line_legality.specs.declared.shortfall.RosterFault.{RosterFault}
-use Rattle.line_legality.specs.declared.shortfall.RosterFault.TheVariants as fault
+use Rattle.line_legality.specs.declared.shortfall.RosterFault.TheVariants as shortfall
 use Rattle.shelf.specs.declared.tally.Tally.{Tally}
 use Rattle.month_files.specs.FileNames.{name_of}
 use Rattle.month_files.specs.Reading.{UnreadCause}
@@ -28,9 +28,9 @@ unread_roster text.Sums fault = stop.No (untraded.Roster fault)
 unread_roster text.Rows fault = stop.No (untraded.Roster fault)
 
 abbrev pub incomplete_roster : RosterFault → TradeStop
-incomplete_roster fault.NoMemory = stop.NoMemory
-incomplete_roster (fault.Line m why) = stop.No (untraded.Incomplete (fault.Line m why))
-incomplete_roster (fault.Cover p count) = stop.No (untraded.Incomplete (fault.Cover p count))
+incomplete_roster shortfall.NoMemory = stop.NoMemory
+incomplete_roster (shortfall.Line m why) = stop.No (untraded.Incomplete (shortfall.Line m why))
+incomplete_roster (shortfall.Cover p count) = stop.No (untraded.Incomplete (shortfall.Cover p count))
 
 abbrev pub unread_trades : TradeCode → TradeFault → TradeStop
 unread_trades code.NoMemory fault = stop.NoMemory
