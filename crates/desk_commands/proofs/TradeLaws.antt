@@ -105,21 +105,6 @@ module _ (problem : Problem) (offered : Offered) where
     readable = readable;
   }
 
-  -- an end that writes nothing
-  pub stop_cause : (at : Tally) (s : TradeStop) → IsDeskEnd problem offered (Err s) → TradeCause at at (Err s)
-  stop_cause at (stop.Unread why) h = absurd h
-  stop_cause at (stop.BadInput why) h = refl
-  stop_cause at (stop.No why) h = refl
-  stop_cause at (stop.Unwritten traded u) h = absurd h
-  stop_cause at stop.NoMemory h = refl
-
-  pub stop_left : (old new : Option Files) (s : TradeStop) → IsDeskEnd problem offered (Err s) → new ≡ old → Leaves old new (trade_written (Err s))
-  stop_left old new (stop.Unread why) h same = same
-  stop_left old new (stop.BadInput why) h same = same
-  stop_left old new (stop.No why) h same = same
-  stop_left old new (stop.Unwritten traded u) h same = absurd h
-  stop_left old new stop.NoMemory h same = same
-
 -- ---- over files that are read
 
 module _ (files : Files) (offered : Offered) (read : offered_in files ≡ Ok offered) where
@@ -165,13 +150,6 @@ module _ (old new : Entries) (offered : Offered) (logged : new ≡ old ++ offere
 
     pub handed_traded : (traded : Traded) → IsDeskEnd problem offered (Ok traded) → FromReads trading_order old new (λ files. HasTraded files traded)
     handed_traded traded h = from_texts (λ files. HasTraded files traded) (has_traded (holding (offered_texts offered)) offered offered_held problem names traded h)
-
--- the file was not written
-pub handed_unwritten : (old new log : Entries) (traded : Traded) (u : Unwritten) → log ≡ new → IsStop traded.drafts u → FromReads trading_order old new (λ files. HasTraded files traded)
-    → IsTradingHanded old log (Err (stop.Unwritten traded u))
-handed_unwritten old new log traded u same stopped h =
-    subst (λ (l : Entries). IsTradingHanded old l (Err (stop.Unwritten traded u))) (sym same)
-    (record { texts = h.texts; logged = h.logged; count = h.count; names = h.names; found = record { found = h.found; stopped = stopped } })
 
 -- two texts are read behind others
 pub two_more : (old front one two all : Entries) (x y : List ℕ × List ℕ) → one ≡ old ++ front → two ≡ one ++ x ∷ [] → all ≡ two ++ y ∷ [] → all ≡ old ++ (front ++ x ∷ y ∷ [])

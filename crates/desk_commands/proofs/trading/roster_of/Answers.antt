@@ -7,7 +7,7 @@ use Rattle.desk_commands.proofs.trading.roster_of.Goals as goal
 
 pub returns-in_err-roster-clause-refused : goal.returns-in_err-roster-clause-refused
 returns-in_err-roster-clause-refused c =
-    let p = err_from_is_err_and c.from_residual-in_err-roster.result c.from_residual-in_err-roster.ensures.1 in
+    let p = err_from_is_err_and c.from_residual.result c.from_residual.ensures.1 in
     rw (p.1, p.2) (refused_roster c.args.problem.now (view_offered c.args.texts.now) c.in_err-roster.field-0.0 c.in_err-roster.field-0.0.code refl
     (λ known. subst (λ (b : List ℕ). HasFault c.args.problem.now b c.in_err-roster.field-0.0) c.deref.ensures.value (c.in_err-roster.ensures.fault known)))
 

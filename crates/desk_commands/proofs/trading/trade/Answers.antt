@@ -1,6 +1,6 @@
 use Rattle.std.proofs.lemmas.Result.{err_from_is_err_and}
 use Rattle.desk_commands.specs.TradeTexts.{view_offered}
-use Rattle.desk_commands.proofs.TradeLaws.{bad_offer, handed_month, stop_cause, stop_left, ends_at_desk, handed_desk, has_traded, handed_traded}
+use Rattle.desk_commands.proofs.TradeLaws.{bad_offer, handed_month, ends_at_desk, handed_desk, has_traded, handed_traded}
 use Rattle.desk_commands.proofs.trading.trade.Goals as goal
 
 pub returns-in_err-problem-clause-told : goal.returns-in_err-problem-clause-told
@@ -23,16 +23,10 @@ returns-in-Ok-clause-handed g c =
     c.write_traded.ensures.handed _
     (handed_traded _ _ (view_offered c.in_ok-texts.texts) c.in_ok-texts.ensures.logged c.in_ok-texts.ensures.short c.in_ok-texts.ensures.brief c.in_ok-problem.problem c.in_ok-problem.ensures.month c.in-Ok.traded c.in-Ok.ensures.end)
 
-pub returns-in-Err-clause-cause : goal.returns-in-Err-clause-cause
-returns-in-Err-clause-cause g c = ?
-
-pub returns-in-Err-clause-told : goal.returns-in-Err-clause-told
-returns-in-Err-clause-told g c = λ files told.
+pub returns-clause-told : goal.returns-clause-told
+returns-clause-told g c = λ files told.
     ends_at_desk files (view_offered c.in_ok-texts.texts) (c.in_ok-texts.ensures.told files told) c.in_ok-problem.problem c.in_ok-problem.ensures.month c.in-Err.stop c.in-Err.ensures.end
 
-pub returns-in-Err-clause-left : goal.returns-in-Err-clause-left
-returns-in-Err-clause-left g c = stop_left c.in_ok-problem.problem (view_offered c.in_ok-texts.texts) _ _ c.in-Err.stop c.in-Err.ensures.end c.in_ok-texts.ensures.kept
-
-pub returns-in-Err-clause-handed : goal.returns-in-Err-clause-handed
-returns-in-Err-clause-handed g c =
+pub returns-clause-handed : goal.returns-clause-handed
+returns-clause-handed g c =
     handed_desk _ _ (view_offered c.in_ok-texts.texts) c.in_ok-texts.ensures.logged c.in_ok-texts.ensures.short c.in_ok-texts.ensures.brief c.in_ok-problem.problem c.in_ok-problem.ensures.month c.in-Err.stop c.in-Err.ensures.end
