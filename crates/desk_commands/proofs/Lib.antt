@@ -1,1 +1,3 @@
 pub mod MigrateLaws
+pub mod Held
+pub mod TradeLaws

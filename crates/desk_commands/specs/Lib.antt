@@ -1,2 +1,5 @@
 pub mod MigrateEnds
 pub mod Migrate
+pub mod TradeEnds
+pub mod Trade
+pub mod TradeTexts
