@@ -1,7 +1,7 @@
 //! The walk over the nodes of a search, depth first.
-ghost use Rattle.std.specs.Prelude.{◌≡◌, ◌≢◌, ◌↔◌, ◌+◌, ◌<◌, ◌≤◌, true, Some, [], ◌∷◌, ◌++◌, length, slice_get, IfOk, OnOk, OnErr};
+ghost use Rattle.std.specs.Prelude.{◌≡◌, ◌≢◌, ◌↔◌, ◌+◌, ◌<◌, ◌≤◌, true, false, Some, [], ◌∷◌, ◌++◌, length, slice_get, IfOk, OnOk, OnErr};
 ghost use Rattle.roster_model.specs.declared.problem.Problem.{Problem};
-ghost use Rattle.roster_model.specs.Decided.{decided};
+ghost use Rattle.roster_model.specs.Decided.{decided, is_decided};
 ghost use Rattle.roster_model.specs.Goals.{IsGoal};
 ghost use Rattle.roster_model.specs.OpenNodes.{IsOpenNode};
 ghost use Rattle.roster_model.specs.Ledgers.{Each};
@@ -11,7 +11,7 @@ ghost use Rattle.completion_search.specs.Path.{IsAt, IsAboveFlown, HasGrown};
 
 use branch_log::{Closer, Ledger, Verdict};
 use duty_calendar::{Copied, List, Memory};
-use roster_model::{Decision, Entry, Goal, Item, Node, Problem, Proof, Roster};
+use roster_model::{Decision, Entry, Goal, Item, Node, NodeFault, Problem, Proof, Roster};
 use std::alloc::Global;
 
 /// What a search finds.
@@ -158,6 +158,7 @@ fn add_item(items: &mut Proof, item: Item) -> Result<(), Memory>
 
 /// Decides that the member flies the pairing.
 fn fly(node: &mut Node, member: u32, pairing: u32) -> Result<(), Memory>
+    requires undecided { is_decided node.old member pairing ≡ false }
     ensures ok { OnOk result (node.new ≡ decided node.old member pairing true) }
 {
     let decision = Decision {
@@ -167,6 +168,7 @@ fn fly(node: &mut Node, member: u32, pairing: u32) -> Result<(), Memory>
     };
     match node.decide(decision) {
         Ok(()) => Ok(()),
-        Err(_) => Err(Memory::NoMemory),
+        Err(NodeFault::NoMemory) => Err(Memory::NoMemory),
+        Err(NodeFault::AlreadyDecided) => unreachable!(),
     }
 }

@@ -71,10 +71,8 @@ one_decision problem node d is m p once = subst (IsNode problem) (sym is) (recor
 })
 
 -- the bids of two members, where there are four pairings
-pub bids_of_two : (h : Horizon) (count : ℕ) (senior junior : List Bid) (start first bids : List (List Bid)) → start ≡ [] → first ≡ start ++ senior ∷ [] → bids ≡ first ++ junior ∷ [] → count ≡ 4 → All (IsBid h 4) senior → All (IsBid h 4) junior
+pub bids_of_two : (h : Horizon) (count : ℕ) (senior junior : List Bid) (bids : List (List Bid)) → bids ≡ senior ∷ junior ∷ [] → count ≡ 4 → All (IsBid h 4) senior → All (IsBid h 4) junior
     → All (All (IsBid h count)) bids
-bids_of_two h count senior junior start first bids empty one two four s j =
-    let nothing : All (All (IsBid h 4)) start = subst (All (All (IsBid h 4))) (sym empty) (none (All (IsBid h 4))) in
-    let single : All (All (IsBid h 4)) first = subst (All (All (IsBid h 4))) (sym one) (All-push (All (IsBid h 4)) start senior nothing s) in
-    let both : All (All (IsBid h 4)) bids = subst (All (All (IsBid h 4))) (sym two) (All-push (All (IsBid h 4)) first junior single j) in
-    subst (λ (n : ℕ). All (All (IsBid h n)) bids) (sym four) both
+bids_of_two h count senior junior bids both four s j =
+    let each : All (All (IsBid h 4)) bids = subst (All (All (IsBid h 4))) (sym both) (All-from_recursion (All (IsBid h 4)) (senior ∷ junior ∷ []) (s, (j, tt))) in
+    subst (λ (n : ℕ). All (All (IsBid h n)) bids) (sym four) each

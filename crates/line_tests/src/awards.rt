@@ -3,7 +3,9 @@
 ghost use Rattle.std.specs.Prelude.{◌≡◌, ◌≤◌, ◌∷◌, [], IfOk};
 ghost use Rattle.roster_model.specs.declared.bid.Wish.TheVariants.{CreditAbove, Fly};
 
-use crate::june::{first_pairing, month, pairings, rivals, shared, single, smallest, with};
+use crate::june::{
+    first_pairing, month, one, pair, pairings, rivals, shared, single, smallest, with,
+};
 use duty_calendar::{List, Memory};
 use month_award::{MonthAward, award_month};
 use roster_model::{Bid, BidRef, Cause, Certificate, Denial, Item, Problem, Reasons, Wish};
@@ -29,12 +31,12 @@ fn more_credit(alloc: Global) -> Result<List<Bid>, Memory>
         weight: 10,
         wish: Wish::CreditAbove(300),
     };
-    with(List::new(alloc), bid)
+    one(alloc, bid)
 }
 
 /// The month of one member who is to fly the one pairing of five hours, and wants more.
 fn greedy(alloc: Global) -> Result<Problem, Memory> {
-    let bids = with(List::new(alloc), more_credit(alloc)?)?;
+    let bids = one(alloc, more_credit(alloc)?)?;
     month(pairings(alloc, 1, 1)?, single(alloc, 300, 300)?, bids)
 }
 
@@ -43,7 +45,7 @@ fn greedy(alloc: Global) -> Result<Problem, Memory> {
 fn generous(alloc: Global) -> Result<Problem, Memory> {
     let senior = either_pairing(alloc)?;
     let junior = first_pairing(alloc)?;
-    let bids = with(with(List::new(alloc), senior)?, junior)?;
+    let bids = pair(alloc, senior, junior)?;
     let members = rivals(alloc, 300, 300)?;
     month(pairings(alloc, 2, 1)?, members, bids)
 }
@@ -51,7 +53,7 @@ fn generous(alloc: Global) -> Result<Problem, Memory> {
 /// The same month with a junior who wants nothing.
 fn tie(alloc: Global) -> Result<Problem, Memory> {
     let senior = either_pairing(alloc)?;
-    let bids = with(with(List::new(alloc), senior)?, List::new(alloc))?;
+    let bids = pair(alloc, senior, List::new(alloc))?;
     let members = rivals(alloc, 300, 300)?;
     month(pairings(alloc, 2, 1)?, members, bids)
 }
@@ -59,7 +61,7 @@ fn tie(alloc: Global) -> Result<Problem, Memory> {
 /// The reason of a bid of the first member, alone.
 fn reason(alloc: Global, bid: u32, cause: Cause) -> Result<Reasons, Memory> {
     let bid = BidRef { member: 0, bid };
-    with(List::new(alloc), Denial { bid, cause })
+    one(alloc, Denial { bid, cause })
 }
 
 /// What the month comes to with a ledger of so many nodes.
@@ -82,7 +84,7 @@ fn parts(certificate: &Certificate) -> Option<(usize, usize)> {
 fn the_one_pairing_is_awarded(rt: HostRuntime) -> Result<(), Memory> {
     let alloc = rt.alloc();
     let problem = smallest(alloc)?;
-    match awarded(alloc, &problem, 1)? {
+    match &awarded(alloc, &problem, 1)? {
         MonthAward::Award(month) => {
             assert_eq!(rt; parts(&month.certificate), Some((1, 0)));
             assert_eq!(rt; month.roster.len(), 1);
@@ -99,9 +101,9 @@ fn the_one_pairing_is_awarded(rt: HostRuntime) -> Result<(), Memory> {
 fn a_crew_of_three_is_not_to_be_had(rt: HostRuntime) -> Result<(), Memory> {
     let alloc = rt.alloc();
     let problem = shared(alloc, 1, 3, 0, 5400)?;
-    match awarded(alloc, &problem, 1)? {
+    match &awarded(alloc, &problem, 1)? {
         MonthAward::NoRoster(month) => {
-            let proof = with(List::new(alloc), Item::Count(0))?;
+            let proof = one(alloc, Item::Count(0))?;
             assert!(rt; month.certificate == Certificate::NoRoster(proof));
             assert_eq!(rt; month.entries, 0);
         }
@@ -114,7 +116,7 @@ fn a_crew_of_three_is_not_to_be_had(rt: HostRuntime) -> Result<(), Memory> {
 fn the_junior_is_the_reason_where_the_senior_does_not_care(rt: HostRuntime) -> Result<(), Memory> {
     let alloc = rt.alloc();
     let problem = generous(alloc)?;
-    match awarded(alloc, &problem, 20_000)? {
+    match &awarded(alloc, &problem, 20_000)? {
         MonthAward::Award(month) => {
             assert_eq!(rt; parts(&month.certificate), Some((2, 1)));
             assert_eq!(rt; month.roster.len(), 2);
@@ -131,7 +133,7 @@ fn the_junior_is_the_reason_where_the_senior_does_not_care(rt: HostRuntime) -> R
 fn one_of_two_wishes_is_a_tie(rt: HostRuntime) -> Result<(), Memory> {
     let alloc = rt.alloc();
     let problem = tie(alloc)?;
-    match awarded(alloc, &problem, 20_000)? {
+    match &awarded(alloc, &problem, 20_000)? {
         MonthAward::Award(month) => {
             assert_eq!(rt; parts(&month.certificate), Some((2, 1)));
             let first = reason(alloc, 0, Cause::Tie)?;
@@ -148,7 +150,7 @@ fn one_node_is_too_few_for_a_branch(rt: HostRuntime) -> Result<(), Memory> {
     let alloc = rt.alloc();
     let problem = greedy(alloc)?;
     assert!(rt; awarded(alloc, &problem, 1)? == MonthAward::Budget);
-    match awarded(alloc, &problem, 20_000)? {
+    match &awarded(alloc, &problem, 20_000)? {
         MonthAward::Award(month) => {
             assert_eq!(rt; parts(&month.certificate), Some((1, 1)));
             assert!(rt; month.reasons == reason(alloc, 0, Cause::Place(0))?);

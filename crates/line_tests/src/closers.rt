@@ -6,7 +6,7 @@ ghost use Rattle.duty_calendar.specs.Checks.{ArePairings, IsPairing};
 ghost use Rattle.roster_model.specs.Valid.{IsBid};
 
 use crate::june::{
-    contest, month, pairings, rivals, shared, shift, single, two_floors, with, with_pairing,
+    contest, month, one, pair, pairings, rivals, shared, shift, single, two_floors, with_pairing,
 };
 use branch_log::{Closer, Verdict};
 use duty_calendar::{List, Memory, Name, Pairing, Station};
@@ -33,7 +33,7 @@ fn trip(alloc: Global, name: &[u8], day: u32, stop: [u8; 3]) -> Result<Pairing, 
         name,
         need: 1,
         credit: 600,
-        duties: with(with(List::new(alloc), out)?, back)?,
+        duties: pair(alloc, out, back)?,
     })
 }
 
@@ -75,7 +75,7 @@ fn avoid(alloc: Global, stop: [u8; 3]) -> Result<Bid, Memory>
     };
     Ok(Bid {
         weight: 10,
-        wish: Wish::Avoid(with(List::new(alloc), atom)?),
+        wish: Wish::Avoid(one(alloc, atom)?),
     })
 }
 
@@ -86,15 +86,14 @@ fn two_bids(alloc: Global, first: Bid, second: Bid) -> Result<List<Bid>, Memory>
     ensures few { IfOk result (λ list. length list ≤ 64) }
     ensures form { IfOk result (λ list. (h : Month) → 30 ≤ month_days h → All (IsBid h 4) list) }
 {
-    with(with(List::new(alloc), first)?, second)
+    pair(alloc, first, second)
 }
 
 /// The month of one member and no pairing.
-#[tactic(auto, using(crate::proofs::Months::no_pairings))]
 fn empty(alloc: Global) -> Result<Problem, Memory>
     ensures members { IfOk result (λ p. length p.base.members ≡ 1) }
 {
-    let bids = with(List::new(alloc), List::new(alloc))?;
+    let bids = one(alloc, List::new(alloc))?;
     month(pairings(alloc, 0, 1)?, single(alloc, 0, 5400)?, bids)
 }
 
@@ -105,7 +104,7 @@ fn halved(alloc: Global) -> Result<Problem, Memory>
 {
     let senior = two_bids(alloc, off(367, 371), off(377, 381))?;
     let junior = two_bids(alloc, avoid(alloc, *b"ORD")?, avoid(alloc, *b"DEN")?)?;
-    let bids = with(with(List::new(alloc), senior)?, junior)?;
+    let bids = pair(alloc, senior, junior)?;
     let members = rivals(alloc, 1200, 1200)?;
     month(trips(alloc)?, members, bids)
 }
@@ -149,7 +148,7 @@ fn a_crew_of_three_is_not_to_be_had(rt: HostRuntime) -> Result<(), Memory> {
 fn an_empty_line_is_a_roster(rt: HostRuntime) -> Result<(), Memory> {
     let alloc = rt.alloc();
     let problem = empty(alloc)?;
-    match verdict(alloc, &problem, List::new(alloc))? {
+    match &verdict(alloc, &problem, List::new(alloc))? {
         Verdict::Whole(roster) => {
             assert_eq!(rt; roster.len(), 1);
             assert!(rt; roster.as_slice()[0].pairings().is_empty());
@@ -163,7 +162,7 @@ fn an_empty_line_is_a_roster(rt: HostRuntime) -> Result<(), Memory> {
 fn two_cannot_fly_the_one_pairing(rt: HostRuntime) -> Result<(), Memory> {
     let alloc = rt.alloc();
     let problem = contest(alloc)?;
-    match verdict(alloc, &problem, two_floors(alloc)?)? {
+    match &verdict(alloc, &problem, two_floors(alloc)?)? {
         Verdict::Closed(Item::Weights(weights, lenses)) => {
             assert!(rt; weights.as_slice().iter().all(|weight| *weight < 0));
             assert_eq!(rt; lenses.len(), 2);
@@ -186,10 +185,10 @@ fn two_share_two_pairings(rt: HostRuntime) -> Result<(), Memory> {
 fn halves_of_good_lines_leave_a_node_open(rt: HostRuntime) -> Result<(), Memory> {
     let alloc = rt.alloc();
     let problem = halved(alloc)?;
-    match verdict(alloc, &problem, two_floors(alloc)?)? {
+    match &verdict(alloc, &problem, two_floors(alloc)?)? {
         Verdict::Branch(member, pairing) => {
-            assert!(rt; member < 2);
-            assert!(rt; pairing < 4);
+            assert!(rt; *member < 2);
+            assert!(rt; *pairing < 4);
         }
         _ => panic!(rt; "no weights close the node, and no roster solves it"),
     }

@@ -24,6 +24,20 @@ pub(crate) fn with<T: Drop>(mut list: List<T>, item: T) -> Result<List<T>, Memor
     }
 }
 
+/// The list of one element.
+pub(crate) fn one<T: Drop>(alloc: Global, item: T) -> Result<List<T>, Memory>
+    ensures only { IfOk result (λ list. list ≡ item ∷ []) }
+{
+    with(List::new(alloc), item)
+}
+
+/// The list of two elements.
+pub(crate) fn pair<T: Drop>(alloc: Global, first: T, second: T) -> Result<List<T>, Memory>
+    ensures both { IfOk result (λ list. list ≡ first ∷ second ∷ []) }
+{
+    with(one(alloc, first)?, second)
+}
+
 /// A duty with one leg from a station to another, and a night at a third, if there is one.
 pub(crate) fn shift(
     alloc: Global,
@@ -49,7 +63,7 @@ pub(crate) fn shift(
         parked: report + 360,
         release: report + 390,
         layover,
-        legs: with(List::new(alloc), Leg { from, to, flown })?,
+        legs: one(alloc, Leg { from, to, flown })?,
     })
 }
 
@@ -90,7 +104,7 @@ fn pairing(alloc: Global, number: u32, day: u32, need: u32, credit: u32) -> Resu
         name,
         need,
         credit,
-        duties: with(List::new(alloc), duty(alloc, day)?)?,
+        duties: one(alloc, duty(alloc, day)?)?,
     })
 }
 
@@ -137,7 +151,7 @@ pub(crate) fn tenth(alloc: Global, credit: u32) -> Result<List<Pairing>, Memory>
     ensures count { IfOk result (λ list. length list ≡ 1) }
     ensures form { IfOk result (λ list. (h : Month) → 30 ≤ month_days h → ArePairings h list) }
 {
-    with(List::new(alloc), pairing(alloc, 1, 10, 1, credit)?)
+    one(alloc, pairing(alloc, 1, 10, 1, credit)?)
 }
 
 /// The rules of the month.
@@ -189,7 +203,7 @@ pub(crate) fn single(alloc: Global, low: u32, high: u32) -> Result<List<Member>,
     ensures form { IfOk result (λ list. (h : Month) → AreMembers h list) }
     ensures names { IfOk result (λ list. All (λ m. m.name ≡ 77 ∷ 49 ∷ []) list) }
 {
-    with(List::new(alloc), member(alloc, b"M1", low, high)?)
+    one(alloc, member(alloc, b"M1", low, high)?)
 }
 
 /// Two members.
@@ -211,14 +225,14 @@ pub(crate) fn first_pairing(alloc: Global) -> Result<List<Bid>, Memory>
         weight: 10,
         wish: Wish::Fly(0),
     };
-    with(List::new(alloc), bid)
+    one(alloc, bid)
 }
 
 /// The line of the first pairing.
 pub(crate) fn first_line(alloc: Global) -> Result<Line, Memory>
     ensures line { IfOk result (λ line. line ≡ 0 ∷ []) }
 {
-    match Line::new(with(List::new(alloc), 0)?) {
+    match Line::new(one(alloc, 0)?) {
         Some(line) => Ok(line),
         None => Err(Memory::NoMemory),
     }
@@ -228,7 +242,7 @@ pub(crate) fn first_line(alloc: Global) -> Result<Line, Memory>
 pub(crate) fn two_floors(alloc: Global) -> Result<List<u32>, Memory>
     ensures count { IfOk result (λ floors. length floors ≡ 2) }
 {
-    with(with(List::new(alloc), 10)?, 1)
+    pair(alloc, 10, 1)
 }
 
 /// The month.
@@ -259,7 +273,7 @@ pub(crate) fn smallest(alloc: Global) -> Result<Problem, Memory>
     ensures members { IfOk result (λ p. length p.base.members ≡ 1) }
     ensures pairings { IfOk result (λ p. length p.base.pairings ≡ 1) }
 {
-    let bids = with(List::new(alloc), first_pairing(alloc)?)?;
+    let bids = one(alloc, first_pairing(alloc)?)?;
     month(tenth(alloc, 300)?, single(alloc, 0, 5400)?, bids)
 }
 
@@ -270,7 +284,7 @@ pub(crate) fn contest(alloc: Global) -> Result<Problem, Memory>
 {
     let senior = first_pairing(alloc)?;
     let junior = first_pairing(alloc)?;
-    let bids = with(with(List::new(alloc), senior)?, junior)?;
+    let bids = pair(alloc, senior, junior)?;
     month(tenth(alloc, 300)?, rivals(alloc, 0, 5400)?, bids)
 }
 
@@ -290,7 +304,7 @@ pub(crate) fn shared(
     requires few_credit { high ≤ 12000 }
     ensures members { IfOk result (λ p. length p.base.members ≡ 2) }
 {
-    let bids = with(with(List::new(alloc), List::new(alloc))?, List::new(alloc))?;
+    let bids = pair(alloc, List::new(alloc), List::new(alloc))?;
     let members = rivals(alloc, low, high)?;
     month(pairings(alloc, count, need)?, members, bids)
 }

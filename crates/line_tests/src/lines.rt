@@ -7,20 +7,19 @@ ghost use Rattle.roster_model.specs.Goals.{IsGoal, IsNode};
 ghost use Rattle.roster_model.specs.Lenses.{IsLens};
 ghost use Rattle.roster_model.specs.Weights.{AreSmallWeights};
 
-use crate::june::{contest, first_line, month, pairings, single, tenth, two_floors, with};
+use crate::june::{contest, first_line, month, one, pairings, single, tenth, two_floors, with};
 use duty_calendar::{List, Memory, Pairing};
 use label_lattice::Steps;
 use line_generator::{
-    BestFault, BestInFault, Generator, Over, PricedLine, best, best_over, heaviest, heaviest_over,
+    BestFault, BestInFault, Generator, Over, PricedLine, are_small, best, best_over, heaviest,
+    heaviest_over,
 };
-use line_lens::{
-    LensFault, asks_nothing, lens_line, line_graph, narrow_lens, standard_lens, take_graph,
-};
-use node_guesses::are_small;
+use line_lens::{LensFault, asks_nothing, lens_line, line_graph, narrow_lens, standard_lens};
 use roster_model::{Decision, Goal, Lens, Node, Problem, Window, WindowKind};
 use std::alloc::Global;
 use std::marker::Brand;
 use std::sync::ledger::{Blank, Ledger};
+use take_graphs::take_graph;
 
 /// The month of one member without bids.
 fn alone(alloc: Global, pairings: List<Pairing>, low: u32, high: u32) -> Result<Problem, Memory>
@@ -30,7 +29,7 @@ fn alone(alloc: Global, pairings: List<Pairing>, low: u32, high: u32) -> Result<
     ensures members { IfOk result (λ p. length p.base.members ≡ 1) }
     ensures pairings { IfOk result (λ p. length p.base.pairings ≡ length pairings) }
 {
-    let bids = with(List::new(alloc), List::new(alloc))?;
+    let bids = one(alloc, List::new(alloc))?;
     month(pairings, single(alloc, low, high)?, bids)
 }
 
@@ -179,6 +178,10 @@ fn best_of_grounded(
     best_of_junior(alloc, problem, &grounded(alloc, problem)?, grain)
 }
 
+fn is_refused(answer: &Result<Option<PricedLine>, BestFault>) -> bool {
+    matches!(answer, Err(BestFault::Lens(LensFault::Grain)))
+}
+
 #[test]
 fn reaches_the_floor_of_a_member(rt: HostRuntime) -> Result<(), BestFault> {
     let alloc = rt.alloc();
@@ -188,7 +191,7 @@ fn reaches_the_floor_of_a_member(rt: HostRuntime) -> Result<(), BestFault> {
     let answer = best_of_grounded(alloc, &problem, 60)?;
     assert!(rt; answer.is_none());
     let answer = best_of_grounded(alloc, &problem, 7);
-    assert!(rt; matches!(answer, Err(BestFault::Lens(LensFault::Grain))));
+    assert!(rt; is_refused(&answer));
     Ok(())
 }
 
@@ -395,7 +398,7 @@ fn narrowed_for(alloc: Global, problem: &Problem, floors: List<u32>) -> Result<(
 fn a_lens_tracks_what_the_goal_asks(rt: HostRuntime) -> Result<(), BestFault> {
     let alloc = rt.alloc();
     let problem = contest(alloc)?;
-    let (tracked, asks_nothing) = narrowed_for(alloc, &problem, with(List::new(alloc), 10)?)?;
+    let (tracked, asks_nothing) = narrowed_for(alloc, &problem, one(alloc, 10)?)?;
     assert!(rt; tracked == 0 && asks_nothing);
     let (tracked, asks_nothing) = narrowed_for(alloc, &problem, two_floors(alloc)?)?;
     assert!(rt; tracked == 1 && !asks_nothing);

@@ -16,13 +16,14 @@ use Rattle.roster_model.specs.Lenses.{AreLenses, IsOutweighed}
 use Rattle.roster_model.specs.Splits.{is_split}
 use Rattle.cert_text.specs.declared.limits.TheConstants.{MOST_LENSES, MOST_ENTRIES}
 use Rattle.cert_text.specs.Limits.{is_few, is_index, is_weight, is_lens, is_item}
-use Rattle.cert_text.specs.Spelling.{words_text, line_text, index_text, weight_text, lens_words, lens_text, item_text}
+use Rattle.cert_text.proofs.KeyLaws.{after_length}
+use Rattle.cert_text.specs.Spelling.{words_text, line_text, index_text, item_text, number_text, numbers_text, keys_after, entries_text, lenses_of, numbered_item_text}
 use Rattle.month_award.proofs.Numbers.{within, HasSmallNumbers, lens-numbers, lens-fits, weight-fits, index-fits}
-use Rattle.month_award.proofs.Lengths.{three-digits, words-more, words-one, line-length, each-texts, weights-length, lens-words, lens-length}
+use Rattle.month_award.proofs.Lengths.{three-digits, words-more, words-one, line-length, entries-length, number-of_lens, numbers-of_lenses, lens_lines, lines-more}
 
--- how long the text of a leaf is at most, and that of a split
+-- how long the text of a leaf is at most with the lines of its lenses, and that of a split
 unfoldable pub leaf_most : ℕ
-leaf_most = 51412
+leaf_most = 55415
 
 unfoldable pub split_most : ℕ
 split_most = 30
@@ -66,44 +67,76 @@ module _ (problem : Problem) (goal : Goal) (node : List Decision) where
       and_from _ _ (index-fits m (member-small problem m ok.in_range)) (lens-fits lens (lens-numbers problem m lens ok.shape))
   leaf-fits (Weights ys lenses) ok = weights-fits ys lenses ok
 
-  weights-length_all : (ys : List ℤ) (lenses : List Lens) → IsOutweighed problem goal node ys lenses → length (item_text (Weights ys lenses)) ≤ 51412
-  weights-length_all ys lenses ok =
+  few-lenses : (lenses : List Lens) → length lenses ≡ length problem.base.members → length lenses ≤ 200
+  few-lenses lenses per_member = omega (arith, per_member, problem.valid.month.members_form.few)
+
+  pub leaf-lenses : (leaf : Item) → IsAccepted problem goal node leaf → length (lenses_of leaf) ≤ 200
+  unfolding IsAccepted
+  leaf-lenses (Split m p) ok = absurd ok
+  leaf-lenses (Count p) ok = omega arith
+  leaf-lenses (Fixed m) ok = omega arith
+  leaf-lenses (NoLine m lens) ok = omega arith
+  leaf-lenses (Weights ys lenses) ok = few-lenses lenses ok.per_member
+
+  -- the two lines of weights
+  weights-text : (keys : List (List ℕ)) (ys : List ℤ) (lenses : List Lens) → IsOutweighed problem goal node ys lenses → length keys + 200 ≤ 8000200
+      → length (numbered_item_text keys (Weights ys lenses)) ≤ 11215
+  weights-text keys ys lenses ok room =
       let seven : length (codes "weights") ≡ 7 = refl in
-      let members : length lenses ≤ 200 = omega (arith, ok.per_member, problem.valid.month.members_form.few) in
-      let small = lenses-numbers problem lenses ok.shapes in
-      let words = decimal (length lenses) ∷ map weight_text ys in
+      let two : length (codes "by") ≡ 2 = refl in
+      let pairings : length ys ≤ 600 = omega (arith, ok.per_pairing, problem.valid.month.pairings_form.few) in
+      let members = few-lenses lenses ok.per_member in
+      let words = decimal (length ys) ∷ entries_text 0 ys in
       omega (
         arith,
         seven,
+        two,
+        pairings,
         members,
-        length-append (line_text (codes "weights") words) (flat_map lens_text lenses),
+        length-append (line_text (codes "weights") words) (line_text (codes "by") (numbers_text keys lenses)),
         line-length (codes "weights") words,
-        words-more (decimal (length lenses)) (map weight_text ys),
-        three-digits (length lenses) (omega (arith, members)),
-        weights-length ys ok.small (omega (arith, ok.per_pairing, problem.valid.month.pairings_form.few)),
-        each-texts lens_text 221 lenses (λ k l lt. lens-length _ (small k l lt)),
+        words-more (decimal (length ys)) (entries_text 0 ys),
+        three-digits (length ys) (omega (arith, pairings)),
+        entries-length 0 ys ok.small (omega (arith, pairings)),
+        line-length (codes "by") (numbers_text keys lenses),
+        numbers-of_lenses keys lenses (omega (arith, room, members)),
       )
 
-  pub leaf-length : (leaf : Item) → IsAccepted problem goal node leaf → length (item_text leaf) ≤ leaf_most
+  -- behind any lenses that were used before
+  pub leaf-length : (leaf : Item) → IsAccepted problem goal node leaf → (keys : List (List ℕ)) → length keys + 200 ≤ 8000200
+      → length (numbered_item_text keys leaf) + length (lens_lines (keys_after keys (lenses_of leaf))) ≤ length (lens_lines keys) + leaf_most
   unfolding IsAccepted leaf_most
-  leaf-length (Split m p) ok = absurd ok
-  leaf-length (Count p) ok =
+  leaf-length (Split m p) ok keys room = absurd ok
+  leaf-length (Count p) ok keys room =
       let five : length (codes "count") ≡ 5 = refl in
       omega (arith, five, line-length (codes "count") (index_text p ∷ []), words-one (index_text p), index-length p (pairing-small problem p ok.in_range))
-  leaf-length (Fixed m) ok =
+  leaf-length (Fixed m) ok keys room =
       let five : length (codes "fixed") ≡ 5 = refl in
       omega (arith, five, line-length (codes "fixed") (index_text m ∷ []), words-one (index_text m), index-length m (member-small problem m ok.in_range))
-  leaf-length (NoLine m lens) ok =
+  leaf-length (NoLine m lens) ok keys room =
       let six : length (codes "noline") ≡ 6 = refl in
+      let words = number_text keys lens ∷ [] in
       omega (
         arith,
         six,
-        line-length (codes "noline") (index_text m ∷ lens_words lens),
-        words-more (index_text m) (lens_words lens),
+        line-length (codes "noline") (index_text m ∷ words),
+        words-more (index_text m) words,
+        words-one (number_text keys lens),
         index-length m (member-small problem m ok.in_range),
-        lens-words lens (lens-numbers problem m lens ok.shape),
+        number-of_lens keys lens (omega (arith, room)),
+        lines-more keys (lens ∷ []) (one-lens lens (lens-numbers problem m lens ok.shape)),
       )
-  leaf-length (Weights ys lenses) ok = weights-length_all ys lenses ok
+    where
+      one-lens : (lens : Lens) → HasSmallNumbers lens → All HasSmallNumbers (lens ∷ [])
+      one-lens lens small zero d lt = small
+      one-lens lens small (suc k) d lt = absurd (omega arith)
+  leaf-length (Weights ys lenses) ok keys room =
+      omega (
+        arith,
+        weights-text keys ys lenses ok room,
+        lines-more keys lenses (lenses-numbers problem lenses ok.shapes),
+        few-lenses lenses ok.per_member,
+      )
 
 pub split-fits : (problem : Problem) (node : List Decision) (m p : ℕ) → IsOpenPair problem node m p → is_item (Split m p) ≡ true
 split-fits problem node m p pair =

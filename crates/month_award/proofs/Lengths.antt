@@ -1,7 +1,8 @@
--- How long the texts of lenses and items are at most.
-use Rattle.std.proofs.Common.{◌≡◌, ℕ, zero, suc, ◌+◌, ◌*◌, ◌/◌, ◌%◌, ◌^◌, ◌<◌, ◌≤◌, Bool, true, false, ℤ, pos, negsuc, List, [], ◌∷◌, ◌++◌, length, map, decimal, codes, refl, sym, ap, ◌∙◌, arith, lit≤, lit<, lt_of_lt_of_le, length-append}
+-- How long the texts of lenses and items are at most, and how many lenses a proof has.
+use Rattle.std.proofs.Common.{◌≡◌, ℕ, zero, suc, ◌+◌, ◌*◌, ◌/◌, ◌%◌, ◌^◌, ◌<◌, ◌≤◌, Bool, true, false, cond, ℤ, pos, negsuc, List, [], ◌∷◌, ◌++◌, length, map, decimal, codes, refl, sym, ap, ◌∙◌, arith, lit≤, lit<, lt_of_lt_of_le, length-append}
 use Rattle.std.specs.Prelude.{All}
 use Rattle.std.specs.List.{flat_map}
+use Rattle.std.proofs.lemmas.Grind.{flat_map-append}
 use Rattle.std.proofs.lemmas.Fmt.{length-decimal-le}
 use Rattle.std.proofs.lemmas.Int.{ints}
 use Rattle.std.proofs.lemmas.List.Elements.{All-head, All-tail}
@@ -10,12 +11,16 @@ use Rattle.roster_model.specs.declared.proof.Window.{Window}
 use Rattle.roster_model.specs.declared.proof.WindowKind.{WindowKind}
 use Rattle.roster_model.specs.declared.proof.WindowKind.TheVariants.{Flight672, Duty672, Duty168, Flight365}
 use Rattle.roster_model.specs.Weights.{IsSmallWeight}
-use Rattle.cert_text.specs.Fields.{kind_word}
-use Rattle.cert_text.specs.Spelling.{spaced, words_text, line_text, index_text, flag_text, weight_text, hex_digit, hex_text, bits_text, window_text, lens_words, lens_text}
+use Rattle.cert_text.proofs.KeyLaws.{IsPlaced, place_new, placed, after_length}
+use Rattle.cert_text.specs.Fields.{kind_word, is_zero}
+use Rattle.cert_text.specs.Spelling.{spaced, words_text, line_text, index_text, flag_text, weight_text, hex_digit, hex_text, bits_text, window_text, lens_words, lens_key, is_kept, with_key, place_in, number_text, numbers_text, keys_after, entry_text, entries_text, key_line}
 use Rattle.month_award.proofs.Numbers.{HasSmallNumbers}
 
 pub number-length : (n : ℕ) → n < 2 ^ 32 → length (decimal n) ≤ 10
 number-length n lt = length-decimal-le 10 n (lit< tt) (lt_of_lt_of_le lt (lit≤ tt)) (lt_of_lt_of_le lt (lit≤ tt))
+
+seven-digits : (n : ℕ) → n < 10000000 → length (decimal n) ≤ 7
+seven-digits n lt = length-decimal-le 7 n (lit< tt) (lt_of_lt_of_le lt (lit≤ tt)) (lt_of_lt_of_le lt (lit≤ tt))
 
 six-digits : (n : ℕ) → n < 1000000 → length (decimal n) ≤ 6
 six-digits n lt = length-decimal-le 6 n (lit< tt) (lt_of_lt_of_le lt (lit≤ tt)) (lt_of_lt_of_le lt (lit≤ tt))
@@ -81,8 +86,32 @@ each-texts f most (x ∷ xs) short =
     let rest = each-texts f most xs (All-tail (λ y. length (f y) ≤ most) x xs short) in
     omega (arith, length-append (f x) (flat_map f xs), first, rest)
 
-pub weights-length : (ws : List ℤ) → All IsSmallWeight ws → length ws ≤ 600 → length (words_text (map weight_text ws)) ≤ 7200
-weights-length ws small few = omega (arith, each-words weight_text 11 ws (λ k w lt. weight-length _ (small k w lt)), few)
+-- a weight behind its place and a colon
+entry-length : (p : ℕ) (w : ℤ) → p < 1000 → IsSmallWeight w → length (entry_text p w) ≤ 15
+entry-length p w lt small =
+    omega (arith, length-append (decimal p) (58 ∷ weight_text w), three-digits p lt, weight-length w small)
+
+-- the weights other than 0
+pub entries-length : (k : ℕ) (ws : List ℤ) → All IsSmallWeight ws → k + length ws ≤ 600
+    → length (words_text (entries_text k ws)) ≤ length ws * 16
+entries-length k [] small few = omega arith
+entries-length k (w ∷ ws) small few =
+    by_test (is_zero w) refl (entries-length (k + 1) ws (All-tail IsSmallWeight w ws small) (omega (arith, few)))
+  where
+    by_test : (b : Bool) → is_zero w ≡ b → length (words_text (entries_text (k + 1) ws)) ≤ length ws * 16
+        → length (words_text (entries_text k (w ∷ ws))) ≤ suc (length ws) * 16
+    by_test true e rest =
+        let same = ap (λ (b : Bool). length (words_text (cond b (entries_text (k + 1) ws) (entry_text (k + 1) w ∷ entries_text (k + 1) ws)))) e in
+        omega (arith, same, rest)
+    by_test false e rest =
+        let same = ap (λ (b : Bool). length (words_text (cond b (entries_text (k + 1) ws) (entry_text (k + 1) w ∷ entries_text (k + 1) ws)))) e in
+        omega (
+          arith,
+          same,
+          rest,
+          words-more (entry_text (k + 1) w) (entries_text (k + 1) ws),
+          entry-length (k + 1) w (omega (arith, few)) (All-head IsSmallWeight w ws small),
+        )
 
 pub lens-words : (lens : Lens) → HasSmallNumbers lens → length (words_text (lens_words lens)) ≤ 216
 lens-words lens small =
@@ -104,7 +133,67 @@ lens-words lens small =
       small.few,
     )
 
-pub lens-length : (lens : Lens) → HasSmallNumbers lens → length (lens_text lens) ≤ 221
-lens-length lens small =
+-- ---- lenses by their words
+
+key-length : (lens : Lens) → HasSmallNumbers lens → length (key_line (lens_key lens)) ≤ 221
+unfolding lens_key
+key-length lens small =
+    let key = words_text (lens_words lens) in
     let four : length (codes "lens") ≡ 4 = refl in
-    omega (arith, line-length (codes "lens") (lens_words lens), lens-words lens small, four)
+    omega (arith, four, length-append (codes "lens") (key ++ 10 ∷ []), length-append key (10 ∷ []), lens-words lens small)
+
+-- a lens is one of those that were used, or the next one
+place-within : (keys : List (List ℕ)) (key : List ℕ) → place_in keys key ≤ length keys
+place-within keys key = by_test (is_kept keys key) refl
+  where
+    by_test : (b : Bool) → is_kept keys key ≡ b → place_in keys key ≤ length keys
+    by_test true e = let there : IsPlaced keys key = placed keys key e in let lt = there.within in omega (arith, lt)
+    by_test false e = let last = place_new keys key e in omega (arith, last)
+
+pub number-of_lens : (keys : List (List ℕ)) (lens : Lens) → length keys + 1 < 10000000 → length (number_text keys lens) ≤ 7
+number-of_lens keys lens few = seven-digits (place_in keys (lens_key lens) + 1) (omega (arith, few, place-within keys (lens_key lens)))
+
+pub numbers-of_lenses : (keys : List (List ℕ)) (lenses : List Lens) → length keys + length lenses < 10000000
+    → length (words_text (numbers_text keys lenses)) ≤ length lenses * 8
+numbers-of_lenses keys [] few = omega arith
+numbers-of_lenses keys (lens ∷ lenses) few =
+    let after = with_key keys (lens_key lens) in
+    let rest = numbers-of_lenses after lenses (omega (arith, few, after_length keys (lens ∷ []))) in
+    omega (
+      arith,
+      words-more (number_text keys lens) (numbers_text after lenses),
+      number-of_lens keys lens (omega (arith, few)),
+      rest,
+    )
+
+-- the lines of lenses
+abbrev pub lens_lines : List (List ℕ) → List ℕ
+lens_lines keys = flat_map key_line keys
+
+line-more : (keys : List (List ℕ)) (lens : Lens) → HasSmallNumbers lens
+    → length (lens_lines (with_key keys (lens_key lens))) ≤ length (lens_lines keys) + 221
+line-more keys lens small = by_test (is_kept keys (lens_key lens)) refl
+  where
+    by_test : (b : Bool) → is_kept keys (lens_key lens) ≡ b → length (lens_lines (with_key keys (lens_key lens))) ≤ length (lens_lines keys) + 221
+    by_test true e =
+        let same = ap (λ (b : Bool). length (lens_lines (cond b keys (keys ++ lens_key lens ∷ [])))) e in
+        omega (arith, same)
+    by_test false e =
+        let same = ap (λ (b : Bool). length (lens_lines (cond b keys (keys ++ lens_key lens ∷ [])))) e in
+        let apart = ap (λ (t : List ℕ). length t) (flat_map-append key_line keys (lens_key lens ∷ [])) in
+        omega (
+          arith,
+          same,
+          apart,
+          length-append (lens_lines keys) (lens_lines (lens_key lens ∷ [])),
+          length-append (key_line (lens_key lens)) [],
+          key-length lens small,
+        )
+
+pub lines-more : (keys : List (List ℕ)) (lenses : List Lens) → All HasSmallNumbers lenses
+    → length (lens_lines (keys_after keys lenses)) ≤ length (lens_lines keys) + length lenses * 221
+lines-more keys [] small = omega arith
+lines-more keys (lens ∷ lenses) small =
+    let first = line-more keys lens (All-head HasSmallNumbers lens lenses small) in
+    let rest = lines-more (with_key keys (lens_key lens)) lenses (All-tail HasSmallNumbers lens lenses small) in
+    omega (arith, first, rest)

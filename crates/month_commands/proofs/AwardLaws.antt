@@ -16,7 +16,7 @@ use Rattle.roster_model.specs.Goals.{IsBidOf}
 use Rattle.roster_text.specs.ReasonText.{IsReason}
 use Rattle.month_files.specs.declared.fault.BadInput.{BadInput}
 use Rattle.month_files.specs.declared.fault.BadInput.TheVariants as bad
-use Rattle.month_files.specs.Handing.{input_texts}
+use Rattle.month_files.specs.Handing.{FromReads, input_texts}
 use Rattle.month_files.specs.Months.{Names, Ends}
 use Rattle.month_files.specs.Reading.{Inputs, AreShort, texts_in}
 use Rattle.month_commands.specs.declared.award_stop.AwardStop.{AwardStop}
@@ -25,10 +25,9 @@ use Rattle.month_commands.specs.declared.award_stop.Finding.{Finding}
 use Rattle.month_commands.specs.declared.award_stop.Miss.{Miss}
 use Rattle.month_commands.specs.declared.award_stop.Miss.TheVariants as miss
 use Rattle.month_files.specs.declared.writing.Unwritten.{Unwritten}
-use Rattle.month_commands.specs.Award.{Finds, IsFinding, IsFound, IsBadMonth, OfMonth, SpendsBudget, IsAward, IsAwardHanded}
+use Rattle.month_commands.specs.Award.{Finds, IsFinding, IsFound, IsBadMonth, OfMonth, SpendsBudget, IsAward, IsAwardHanded, awarding_order}
 use Rattle.month_commands.specs.AwardEnds.{miss_stop}
 use Rattle.month_commands.specs.AwardEnds.{AwardCause, award_written}
-use Rattle.month_commands.specs.Handed.{FromTexts}
 use Rattle.month_files.specs.Writes.{Leaves, IsStop}
 use Rattle.month_commands.proofs.HandedLaws.{inputs_held}
 
@@ -62,14 +61,14 @@ on_month files P Q month f = record { inputs = month.inputs; read = month.read; 
 
 -- ---- over the texts that reads handed in
 
-pub on_texts : (old new : Entries) (P Q : Files → Type 0) → FromTexts old new P → ((files : Files) → P files → Q files) → FromTexts old new Q
+pub on_texts : (old new : Entries) (P Q : Files → Type 0) → FromReads awarding_order old new P → ((files : Files) → P files → Q files) → FromReads awarding_order old new Q
 on_texts old new P Q h f = record { texts = h.texts; logged = h.logged; count = h.count; names = h.names; found = f (holding h.texts) h.found }
 
 module _ (old new : Entries) (nodes : ℕ) (inputs : Inputs) (logged : new ≡ old ++ input_texts inputs) (short : AreShort inputs) where
   held : texts_in (holding (input_texts inputs)) ≡ Ok inputs
   held = inputs_held inputs [] short
 
-  from_inputs : (P : Files → Type 0) → P (holding (input_texts inputs)) → FromTexts old new P
+  from_inputs : (P : Files → Type 0) → P (holding (input_texts inputs)) → FromReads awarding_order old new P
   from_inputs P h = record { texts = input_texts inputs; logged = logged; count = 8; names = refl; found = h }
 
   pub bad_month_handed : (why : BadInput) → Ends {X = Problem} (Names inputs) inputs (Err why) → IsAwardHanded old new nodes (Err (stop.BadInput why))
@@ -81,11 +80,11 @@ module _ (old new : Entries) (nodes : ℕ) (inputs : Inputs) (logged : new ≡ o
         from_inputs (λ files. OfMonth files (λ p. SpendsBudget p nodes spent)) (finds_nothing (holding (input_texts inputs)) nodes inputs held problem names (miss.Budget spent) h)
     nothing_handed miss.NoMemory h = tt
 
-    pub found_handed : (f : Finding) → IsFinding problem nodes (Ok f) → FromTexts old new (λ files. IsFound files nodes f)
+    pub found_handed : (f : Finding) → IsFinding problem nodes (Ok f) → FromReads awarding_order old new (λ files. IsFound files nodes f)
     found_handed f h = from_inputs (λ files. IsFound files nodes f) (is_found (holding (input_texts inputs)) nodes inputs held problem names f h)
 
 -- a file was not written
-pub unwritten_handed : (old new log : Entries) (nodes : ℕ) (f : Finding) (u : Unwritten) → log ≡ new → IsStop f.drafts u → FromTexts old new (λ files. IsFound files nodes f)
+pub unwritten_handed : (old new log : Entries) (nodes : ℕ) (f : Finding) (u : Unwritten) → log ≡ new → IsStop f.drafts u → FromReads awarding_order old new (λ files. IsFound files nodes f)
     → IsAwardHanded old log nodes (Err (stop.Unwritten f u))
 unwritten_handed old new log nodes f u same stopped h =
     subst (λ (l : Entries). IsAwardHanded old l nodes (Err (stop.Unwritten f u))) (sym same)

@@ -49,7 +49,7 @@ use Rattle.month_commands.specs.declared.check_stop.CheckStop.{CheckStop}
 use Rattle.month_commands.specs.declared.check_stop.CheckStop.TheVariants as stop
 use Rattle.month_commands.specs.declared.verdict.Verdict.{Verdict}
 use Rattle.month_commands.specs.Check.{Given, given_in, Claimed, claimed_in, NamesCertificate, IsCheck}
-use Rattle.month_commands.specs.Handed.{reading_order, IsHanded, given_texts, claimed_texts, IsBrief, HandedIn}
+use Rattle.month_commands.specs.Handed.{checking_order, IsHanded, given_texts, claimed_texts, IsBrief, HandedIn}
 
 -- ---- one text
 
@@ -95,7 +95,7 @@ module _ (given : Given) (rest : Entries) (short : AreShort given.inputs) (limit
 
 -- ---- the answers over them
 
-pub handed : (old new texts : Entries) → new ≡ old ++ texts → (count : ℕ) → map (λ x. x.0) texts ≡ take count reading_order
+pub handed : (old new texts : Entries) → new ≡ old ++ texts → (count : ℕ) → map (λ x. x.0) texts ≡ take count (map name_of checking_order)
     → (end : Result Verdict CheckStop) → IsCheck (holding texts) end → IsHanded old new end
 handed old new texts logged count names (Ok shown) h = record { texts = texts; logged = logged; count = count; names = names; found = h }
 handed old new texts logged count names (Err (stop.Unread why)) h = tt

@@ -68,7 +68,7 @@ module _ (files : Files) (name : List ℕ) (seen : Seen) (read : seen_in files �
 
 -- ---- over the texts that reads handed in
 
-handed : (old new texts : Entries) (name : List ℕ) → new ≡ old ++ texts → (count : ℕ) → map (λ x. x.0) texts ≡ take count showing_order
+handed : (old new texts : Entries) (name : List ℕ) → new ≡ old ++ texts → (count : ℕ) → map (λ x. x.0) texts ≡ take count (map name_of showing_order)
     → (end : Result (List ℕ) ShowStop) → IsShow (holding texts) name end → IsShowHanded old new name end
 handed old new texts name logged count names (Ok view) h = record { texts = texts; logged = logged; count = count; names = names; found = h }
 handed old new texts name logged count names (Err (stop.Unread why)) h = tt

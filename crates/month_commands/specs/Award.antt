@@ -11,6 +11,7 @@ use Rattle.roster_model.specs.Lawful.{most_searches}
 use Rattle.roster_model.specs.declared.award.Denial.{Denial}
 use Rattle.cert_text.specs.Reading.{certificate_in}
 use Rattle.cert_text.specs.Spelling.{certificate_text}
+use Rattle.cert_text.specs.declared.version.Version.TheVariants.{Two}
 use Rattle.month_award.specs.declared.outcome.AwardedMonth.{AwardedMonth}
 use Rattle.month_award.specs.declared.outcome.UnfillableMonth.{UnfillableMonth}
 use Rattle.month_award.specs.declared.outcome.MonthAward.TheVariants.{Award as MonthIsAwarded}
@@ -18,8 +19,10 @@ use Rattle.month_award.specs.Months.{IsAwardedMonth, IsUnfillableMonth, GivesGre
 use Rattle.month_files.specs.declared.fault.BadInput.{BadInput}
 use Rattle.month_files.specs.declared.fault.BadInput.TheVariants as bad
 use Rattle.month_files.specs.declared.fault.InputFault.{InputFault}
-use Rattle.month_files.specs.declared.file.File.TheVariants.{Certificate as CertificateFile, Reasons as ReasonsFile, Roster as RosterFile}
+use Rattle.month_files.specs.declared.file.File.{File}
+use Rattle.month_files.specs.declared.file.File.TheVariants.{Rules, Pairings, Duties, Legs, Crew, History, Fixed, Bids, Certificate as CertificateFile, Reasons as ReasonsFile, Roster as RosterFile}
 use Rattle.month_files.specs.FileNames.{limit_of}
+use Rattle.month_files.specs.Handing.{FromReads}
 use Rattle.month_files.specs.Months.{Names, HasFault}
 use Rattle.month_files.specs.Reading.{Inputs, UnreadIs, texts_in}
 use Rattle.roster_text.specs.ReasonText.{reasons_text, IsReason}
@@ -33,14 +36,13 @@ use Rattle.month_commands.specs.declared.award_stop.Miss.{Miss}
 use Rattle.month_commands.specs.declared.award_stop.Miss.TheVariants as miss
 use Rattle.month_files.specs.declared.writing.Draft.{Draft}
 use Rattle.month_files.specs.declared.writing.Unwritten.{Unwritten}
-use Rattle.month_commands.specs.Handed.{FromTexts}
 use Rattle.month_files.specs.Writes.{IsStop}
 
 -- ---- what is found, and the files that say it
 
 -- a certificate in its file
 abbrev pub certificate_draft : Certificate → Draft
-certificate_draft certificate = record { file = CertificateFile; bytes = certificate_text certificate }
+certificate_draft certificate = record { file = CertificateFile; bytes = certificate_text Two certificate }
 
 -- reasons in their file
 abbrev pub reasons_draft : Problem → List Denial → Draft
@@ -52,8 +54,8 @@ roster_draft problem roster = record { file = RosterFile; bytes = roster_text pr
 
 -- `check` reads the certificate's text as the certificate, and within its limit
 pub record IsReadable (certificate : Certificate) : Type 0 where
-  pub again : certificate_in (certificate_text certificate) ≡ Ok certificate
-  pub fits : length (certificate_text certificate) ≤ limit_of CertificateFile
+  pub again : certificate_in (certificate_text Two certificate) ≡ Ok certificate
+  pub fits : length (certificate_text Two certificate) ≤ limit_of CertificateFile
 
 -- the same of a roster
 pub record IsReadableRoster (problem : Problem) (roster : List (List ℕ)) : Type 0 where
@@ -145,11 +147,15 @@ IsAward files nodes (Err (stop.Budget spent)) = OfMonth files (λ problem. Spend
 IsAward files nodes (Err (stop.Unwritten f u)) = IsUnwritten files nodes f u
 IsAward files nodes (Err stop.NoMemory) = Unit {0}
 
+-- the files in the order in which `award` reads them
+abbrev pub awarding_order : List File
+awarding_order = Rules ∷ Pairings ∷ Duties ∷ Legs ∷ Crew ∷ History ∷ Fixed ∷ Bids ∷ []
+
 -- of the texts that reads handed in; where not all were read, or memory was wanting, nothing is said
 abbrev pub IsAwardHanded : Entries → Entries → ℕ → Result Finding AwardStop → Type 0
-IsAwardHanded old new nodes (Ok f) = FromTexts old new (λ files. IsFound files nodes f)
+IsAwardHanded old new nodes (Ok f) = FromReads awarding_order old new (λ files. IsFound files nodes f)
 IsAwardHanded old new nodes (Err (stop.Unread why)) = Unit {0}
-IsAwardHanded old new nodes (Err (stop.BadInput why)) = FromTexts old new (λ files. IsBadMonth files why)
-IsAwardHanded old new nodes (Err (stop.Budget spent)) = FromTexts old new (λ files. OfMonth files (λ problem. SpendsBudget problem nodes spent))
-IsAwardHanded old new nodes (Err (stop.Unwritten f u)) = FromTexts old new (λ files. IsUnwritten files nodes f u)
+IsAwardHanded old new nodes (Err (stop.BadInput why)) = FromReads awarding_order old new (λ files. IsBadMonth files why)
+IsAwardHanded old new nodes (Err (stop.Budget spent)) = FromReads awarding_order old new (λ files. OfMonth files (λ problem. SpendsBudget problem nodes spent))
+IsAwardHanded old new nodes (Err (stop.Unwritten f u)) = FromReads awarding_order old new (λ files. IsUnwritten files nodes f u)
 IsAwardHanded old new nodes (Err stop.NoMemory) = Unit {0}

@@ -1,13 +1,14 @@
 -- What `check` says of the texts that its reads handed in, be files told or not.
-use Rattle.std.specs.Prelude.{◌≡◌, ◌≤◌, ℕ, List, [], ◌∷◌, ◌++◌, map, take, length, Result, Ok, Err}
+use Rattle.std.specs.Prelude.{◌≡◌, ◌≤◌, List, [], ◌∷◌, ◌++◌, length, Result, Ok, Err}
 use Rattle.shelf.specs.Files.{Files}
-use Rattle.shelf.specs.Logs.{Entries, holding}
+use Rattle.shelf.specs.Logs.{Entries}
 use Rattle.roster_model.specs.declared.problem.Problem.{Problem}
 use Rattle.roster_model.specs.declared.award.Certificate.{Certificate}
 use Rattle.cert_text.specs.Reading.{certificate_in}
+use Rattle.month_files.specs.declared.file.File.{File}
 use Rattle.month_files.specs.declared.file.File.TheVariants.{Rules, Pairings, Duties, Legs, Crew, History, Fixed, Bids, Certificate as CertificateFile, Roster, Reasons}
 use Rattle.month_files.specs.FileNames.{name_of, limit_of}
-use Rattle.month_files.specs.Handing.{input_texts}
+use Rattle.month_files.specs.Handing.{FromReads, input_texts}
 use Rattle.month_files.specs.Months.{Names}
 use Rattle.month_files.specs.Reading.{AreShort}
 use Rattle.month_commands.specs.declared.check_stop.CheckStop.{CheckStop}
@@ -16,23 +17,15 @@ use Rattle.month_commands.specs.declared.verdict.Verdict.{Verdict}
 use Rattle.month_commands.specs.Check.{Given, Claimed, IsAccepted, IsBadInput, IsRefused}
 
 -- the files in the order in which `check` reads them
-abbrev pub reading_order : List (List ℕ)
-reading_order = map name_of (Rules ∷ Pairings ∷ Duties ∷ Legs ∷ Crew ∷ History ∷ Fixed ∷ Bids ∷ CertificateFile ∷ Roster ∷ Reasons ∷ [])
-
--- the reads handed in these texts, of the first so many files, each once and in order; and P holds of files with them
-pub record FromTexts (old new : Entries) (P : Files → Type 0) : Type 0 where
-  pub texts : Entries
-  pub logged : new ≡ old ++ texts
-  pub count : ℕ
-  pub names : map (λ x. x.0) texts ≡ take count reading_order
-  pub found : P (holding texts)
+abbrev pub checking_order : List File
+checking_order = Rules ∷ Pairings ∷ Duties ∷ Legs ∷ Crew ∷ History ∷ Fixed ∷ Bids ∷ CertificateFile ∷ Roster ∷ Reasons ∷ []
 
 -- where not all due files were read, or memory was wanting, nothing is said
 abbrev pub IsHanded : Entries → Entries → Result Verdict CheckStop → Type 0
-IsHanded old new (Ok shown) = FromTexts old new (λ files. IsAccepted files shown)
+IsHanded old new (Ok shown) = FromReads checking_order old new (λ files. IsAccepted files shown)
 IsHanded old new (Err (stop.Unread why)) = Unit {0}
-IsHanded old new (Err (stop.BadInput why)) = FromTexts old new (λ files. IsBadInput files why)
-IsHanded old new (Err (stop.No why)) = FromTexts old new (λ files. IsRefused files why)
+IsHanded old new (Err (stop.BadInput why)) = FromReads checking_order old new (λ files. IsBadInput files why)
+IsHanded old new (Err (stop.No why)) = FromReads checking_order old new (λ files. IsRefused files why)
 IsHanded old new (Err stop.NoMemory) = Unit {0}
 
 -- the inputs and the certificate, as they are read

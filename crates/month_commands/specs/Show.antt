@@ -1,17 +1,18 @@
 -- What `show` finds in the files of a folder: the month of a member.
-use Rattle.std.specs.Prelude.{◌≡◌, ◌++◌, [], ◌∷◌, ℕ, List, Option, Some, None, Result, Ok, Err, Vec, map, take}
+use Rattle.std.specs.Prelude.{◌≡◌, ◌++◌, [], ◌∷◌, ℕ, List, Option, Some, None, Result, Ok, Err, Vec}
 use Rattle.std.specs.declared.alloc.Global.{Global}
 use Rattle.shelf.specs.Files.{Files}
-use Rattle.shelf.specs.Logs.{Entries, holding}
+use Rattle.shelf.specs.Logs.{Entries}
 use Rattle.roster_model.specs.declared.problem.Problem.{Problem}
 use Rattle.month_files.specs.declared.fault.BadInput.{BadInput}
 use Rattle.month_files.specs.declared.fault.BadInput.TheVariants as bad
 use Rattle.month_files.specs.declared.fault.InputFault.{InputFault}
+use Rattle.month_files.specs.declared.file.File.{File}
 use Rattle.month_files.specs.declared.file.File.TheVariants.{Rules, Pairings, Duties, Legs, Crew, History, Fixed, Bids, Roster}
 use Rattle.month_files.specs.declared.reading.Texts.{Texts}
 use Rattle.month_files.specs.declared.unread.Unread.{Unread}
 use Rattle.month_files.specs.FileNames.{name_of}
-use Rattle.month_files.specs.Handing.{input_texts}
+use Rattle.month_files.specs.Handing.{FromReads, input_texts}
 use Rattle.month_files.specs.Months.{Names, HasFault}
 use Rattle.month_files.specs.Reading.{◌>>=◌, Inputs, UnreadIs, view_texts, text_in, texts_in}
 use Rattle.roster_text.specs.MonthText.{month_text}
@@ -90,16 +91,8 @@ IsShow files name (Err stop.NoMemory) = Unit {0}
 -- ---- of the texts that reads handed in, be files told or not
 
 -- the files in the order in which `show` reads them
-abbrev pub showing_order : List (List ℕ)
-showing_order = map name_of (Rules ∷ Pairings ∷ Duties ∷ Legs ∷ Crew ∷ History ∷ Fixed ∷ Bids ∷ Roster ∷ [])
-
--- the reads handed in these texts, of the first so many files, each once and in order; and P holds of files with them
-pub record FromSight (old new : Entries) (P : Files → Type 0) : Type 0 where
-  pub texts : Entries
-  pub logged : new ≡ old ++ texts
-  pub count : ℕ
-  pub names : map (λ x. x.0) texts ≡ take count showing_order
-  pub found : P (holding texts)
+abbrev pub showing_order : List File
+showing_order = Rules ∷ Pairings ∷ Duties ∷ Legs ∷ Crew ∷ History ∷ Fixed ∷ Bids ∷ Roster ∷ []
 
 -- the inputs and the roster, as they are read
 abbrev pub seen_texts : Seen → Entries
@@ -107,8 +100,8 @@ seen_texts seen = input_texts seen.inputs ++ (name_of Roster, seen.roster) ∷ [
 
 -- where not all were read, or memory was wanting, nothing is said
 abbrev pub IsShowHanded : Entries → Entries → List ℕ → Result (List ℕ) ShowStop → Type 0
-IsShowHanded old new name (Ok view) = FromSight old new (λ files. IsShown files name view)
+IsShowHanded old new name (Ok view) = FromReads showing_order old new (λ files. IsShown files name view)
 IsShowHanded old new name (Err (stop.Unread why)) = Unit {0}
-IsShowHanded old new name (Err (stop.BadInput why)) = FromSight old new (λ files. IsBadSight files why)
-IsShowHanded old new name (Err (stop.No why)) = FromSight old new (λ files. IsUnshown files name why)
+IsShowHanded old new name (Err (stop.BadInput why)) = FromReads showing_order old new (λ files. IsBadSight files why)
+IsShowHanded old new name (Err (stop.No why)) = FromReads showing_order old new (λ files. IsUnshown files name why)
 IsShowHanded old new name (Err stop.NoMemory) = Unit {0}

@@ -4,6 +4,7 @@ ghost use Rattle.std.specs.Option.{ForSome};
 ghost use Rattle.month_award.specs.declared.outcome.MonthAward.TheVariants.{Award as MonthIsAwarded};
 ghost use Rattle.month_award.specs.Months.{IsWritable, IsAwardedMonth, IsUnfillableMonth, GivesGreatestScores};
 ghost use Rattle.month_files.specs.FileNames.{limit_of};
+ghost use Rattle.month_files.specs.Handing.{FromReads};
 ghost use Rattle.month_files.specs.declared.file.File.TheVariants.{Reasons as ReasonsFile};
 ghost use Rattle.roster_model.specs.Denials.{place_of};
 ghost use Rattle.roster_model.specs.Goals.{IsBidOf};
@@ -11,9 +12,8 @@ ghost use Rattle.roster_model.specs.Rosters.{IsComplete};
 ghost use Rattle.roster_text.specs.ReasonText.{reasons_text, most_reasons};
 ghost use Rattle.shelf.specs.Files.{Files};
 ghost use Rattle.shelf.specs.Logs.{Entries};
-ghost use Rattle.month_commands.specs.Award.{certificate_draft, reasons_draft, roster_draft, IsReadable, IsReadableRoster, Finds, IsFinding, IsFound, IsAward, IsAwardHanded};
+ghost use Rattle.month_commands.specs.Award.{certificate_draft, reasons_draft, roster_draft, IsReadable, IsReadableRoster, Finds, IsFinding, IsFound, IsAward, IsAwardHanded, awarding_order};
 ghost use Rattle.month_commands.specs.AwardEnds.{AwardCause, award_written};
-ghost use Rattle.month_commands.specs.Handed.{FromTexts};
 ghost use Rattle.month_files.specs.Writes.{Leaves};
 
 use crate::award_stop::{AwardStop, Finding, Found, Miss};
@@ -160,7 +160,7 @@ fn write_found<S: Shelf>(
     ensures told { (files : Files) (nodes : ℕ) → IsFound files nodes finding
         → IsAward files nodes result }
     ensures left { Leaves (S.holds shelf.old) (S.holds shelf.new) (award_written result) }
-    ensures handed { (old : Entries) (nodes : ℕ) → FromTexts old (S.log shelf.old) (λ files. IsFound files nodes finding)
+    ensures handed { (old : Entries) (nodes : ℕ) → FromReads awarding_order old (S.log shelf.old) (λ files. IsFound files nodes finding)
         → IsAwardHanded old (S.log shelf.new) nodes result }
 {
     match write_all(alloc, shelf, finding.drafts.as_slice()) {

@@ -18,7 +18,8 @@ use crate::trials::{is_lineless, is_outweighed, narrowed};
 use branch_log::Verdict;
 use duty_calendar::{List, Memory};
 use line_lens::standard_lens;
-use node_guesses::{Bounded, Guess, Guide, Part};
+use node_guesses::{Guess, Guide, Part};
+use roster_guesses::Bounded;
 use roster_model::{Goal, Item, Lens, Node, Problem, Roster};
 use std::alloc::Global;
 

@@ -9,9 +9,8 @@ ghost use Rattle.weight_certificates.specs.Pricing.{AreHeaviest, IsShapedHeavies
 use crate::lists::append;
 use crate::rows::{product, set_miss};
 use duty_calendar::{List, Memory};
-use line_generator::{BestFault, Over};
+use line_generator::{BestFault, Over, are_small, heaviest_line_over, is_out_of_reach, line_over};
 use line_lens::check_lens;
-use node_guesses::{are_small, heaviest_line_over, is_out_of_reach, line_over};
 use roster_model::{Goal, Lens, Line, Node, Problem, Roster};
 use std::alloc::Global;
 

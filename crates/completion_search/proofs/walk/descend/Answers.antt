@@ -12,6 +12,10 @@ close-requires-clause-node g c =
     IsNode-stands c.args.problem.now c.loop-is_open.ledger.entries c.args.number c.loop-is_open.node c.loop-is_open.parents.items
     (c.loop-is_open.invariant.here c.loop-is_open-test.true).stands
 
+pub fly-requires : goal.fly-requires
+fly-requires g c =
+    let h = rw c.in-Branch.is at c.in_ok-roster.ensures.honest in record { undecided = h.pair.undecided }
+
 pub loop-is_open-init : goal.loop-is_open-init
 loop-is_open-init g c = record {
   fits = λ other. (λ h. h, λ h. h);

@@ -1,4 +1,4 @@
-use Rattle.std.proofs.Common.{◌≡◌, List, [], ◌∷◌, ◌++◌, subst, sym, ◌∙◌, ap}
+use Rattle.std.proofs.Common.{◌≡◌, List, [], ◌∷◌, subst, sym}
 use Rattle.std.proofs.lemmas.Result.{IfOk-weaker}
 use Rattle.duty_calendar.specs.declared.horizon.Horizon.{Horizon}
 use Rattle.duty_calendar.specs.declared.member.Member.{Member}
@@ -8,16 +8,12 @@ use Rattle.line_tests.proofs.june.single.Goals as goal
 
 pub returns-clause-form : goal.returns-clause-form
 returns-clause-form c =
-    let only : List Member = c.in_ok-member.field-0 ∷ [] in
-    let form : (list : List Member) → list ≡ c.new.result ++ only → (h : Horizon) → AreMembers h list =
-    λ list is h.
-    subst (AreMembers h) (sym (is ∙ ap (λ (xs : List Member). xs ++ only) c.new.ensures))
-    (one_member h c.in_ok-member.field-0 (c.in_ok-member.ensures.form h)) in
-    IfOk-weaker _ _ _ form c.with.ensures.added
+    let form : (list : List Member) → list ≡ c.in_ok-member.field-0 ∷ [] → (h : Horizon) → AreMembers h list =
+    λ list is h. subst (AreMembers h) (sym is) (one_member h c.in_ok-member.field-0 (c.in_ok-member.ensures.form h)) in
+    IfOk-weaker _ _ _ form c.one.ensures.only
 
 pub returns-clause-names : goal.returns-clause-names
 returns-clause-names c =
     IfOk-weaker _ _ _
-    (λ list is.
-    named list c.in_ok-member.field-0 (is ∙ ap (λ (xs : List Member). xs ++ c.in_ok-member.field-0 ∷ []) c.new.ensures) c.in_ok-member.ensures.name)
-    c.with.ensures.added
+    (λ list is. named list c.in_ok-member.field-0 is c.in_ok-member.ensures.name)
+    c.one.ensures.only

@@ -1,0 +1,2 @@
+pub mod MigrateEnds
+pub mod Migrate

@@ -1,0 +1,16 @@
+use Rattle.std.proofs.Common.{◌≡◌, true, false, Bool}
+use Rattle.std.specs.Prelude.{IsTrue, not}
+use Rattle.line_generator.proofs.Reaching.{floor_within}
+use Rattle.line_generator.proofs.reach.is_out_of_reach.Goals as goal
+
+not_both : (b : Bool) → IsTrue (not b) → b ≡ true → ⊥
+not_both true p q = cc
+not_both false p q = cc
+
+pub returns : goal.returns
+returns c = record {
+  none =
+      λ yes node lens line passes.
+      not_both c.is_within.result yes
+      (c.is_within.ensures.within.1 (floor_within c.args.problem.now c.args.member c.args.goal.now node lens line c.bids_weight-most.result c.bids_weight-most.ensures.weight passes));
+}

@@ -1,0 +1,14 @@
+use Rattle.std.proofs.Common.{subst, ◌<◌}
+use Rattle.std.proofs.Common.{◌≤◌}
+use Rattle.line_items.proofs.WindowSteps.{spread_none, spread_step, spread_end}
+use Rattle.line_items.proofs.windows.window_caps.Goals as goal
+
+pub loop-k-init : goal.loop-k-init
+loop-k-init g c = spread_none g.row.N _
+
+pub loop-k-preserved : goal.loop-k-preserved
+loop-k-preserved g c =
+    spread_step g.row.N c.loop-k.k _ c.args.windows.now _ _ _ (subst (λ n. c.loop-k.k < n) c.min-k-end.ensures c.loop-k-test.true) c.loop-k.invariant c.limit_of.ensures.limit
+
+pub returns : goal.returns
+returns g c = record { caps = spread_end g.row.N c.loop-k.k _ _ _ (subst (λ n. n ≤ c.loop-k.k) c.min-k-end.ensures c.loop-k-test.false) c.loop-k.invariant }

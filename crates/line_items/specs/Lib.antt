@@ -1,0 +1,11 @@
+pub mod Joins
+pub mod Clear
+pub mod Hits
+pub mod Items
+pub mod FreeBlocks
+pub mod DutyTimes
+pub mod BusyDays
+pub mod DayMasks
+pub mod NightRows
+pub mod WindowMinutes
+pub mod Masks

@@ -1,0 +1,325 @@
+//! Lines that are kept for each member, with what is known of each.
+ghost use Rattle.std.specs.Prelude.{◌≡◌, ◌<◌, IsTrue, length};
+ghost use Rattle.roster_model.specs.Scores.{bids_of};
+
+use crate::ladder::{first_lens, first_lenses, is_trackable};
+use crate::pairings::PairingSet;
+use bid_score::{granted, score};
+use column_pool::Pool;
+use duty_calendar::{Copied, List, Memory};
+use line_generator::are_known;
+use line_legality::{Illegal, legal};
+use roster_model::{Goal, Lens, Line, Problem};
+use std::alloc::Global;
+
+/// What is known of a kept line: its pairings, its bids that it grants and may grant, what these weigh, and the rule that
+/// it breaks, if any. A line may grant what it grants, and each bid that a lens can't track.
+#[derive(Clone, Copy)]
+pub struct Profile {
+    pub pairings: PairingSet,
+    pub grants: u64,
+    pub may_grant: u64,
+    pub score: u32,
+    pub may_score: u32,
+    pub broken: Option<Illegal>,
+}
+
+/// The pairings of a member's kept lines, line after line, and where each line ends.
+#[derive(Drop)]
+struct Flat {
+    pairings: Vec<u32>,
+    ends: Vec<usize>,
+}
+
+/// The kept lines, which are found by member and number; for each member a lens that sees the rules which its lines
+/// broke; and whose turn it was to be priced first.
+#[derive(Drop)]
+pub struct Kept {
+    pool: Pool,
+    flats: Vec<Flat>,
+    profiles: Vec<Vec<Profile>>,
+    lenses: List<Lens>,
+    turn: usize,
+}
+
+/// The number in 32 bits, or the greatest where it does not fit.
+pub fn number(value: usize) -> u32 {
+    if value < 4_294_967_296 {
+        value as u32
+    } else {
+        u32::MAX
+    }
+}
+
+/// Whether the member is one of the problem.
+pub fn is_member(problem: &Problem, member: u32) -> bool
+    ensures member { IsTrue result → member < length problem.now.base.members }
+{
+    (member as usize) < problem.base.members.len()
+}
+
+/// The rule that the line breaks, if any.
+fn broken(
+    alloc: Global,
+    problem: &Problem,
+    member: u32,
+    line: &Line,
+) -> Result<Option<Illegal>, Memory> {
+    if !is_member(problem, member) || !are_known(problem, line.pairings()) {
+        return Ok(Some(Illegal::Overlap(0)));
+    }
+    match legal(alloc, problem, member, line) {
+        Ok(()) => Ok(None),
+        Err(Illegal::NoMemory) => Err(Memory::NoMemory),
+        Err(why) => Ok(Some(why)),
+    }
+}
+
+/// What is known of the line but for the rule that it breaks.
+fn known_of(problem: &Problem, member: u32, line: &Line, pairings: PairingSet) -> Profile {
+    let mut profile = Profile {
+        pairings,
+        grants: 0,
+        may_grant: 0,
+        score: 0,
+        may_score: 0,
+        broken: None,
+    };
+    let Some(bids) = problem.bids.as_slice().get(member as usize) else {
+        return profile;
+    };
+    for (place, bid) in bids.as_slice().iter().enumerate() {
+        let grants = is_granted(problem, member, number(place), line);
+        let bit = bit_of(place);
+        if grants {
+            profile.grants |= bit;
+            profile.score = profile.score.saturating_add(bid.weight);
+        }
+        if grants || !is_trackable(&bid.wish) {
+            profile.may_grant |= bit;
+            profile.may_score = profile.may_score.saturating_add(bid.weight);
+        }
+    }
+    profile
+}
+
+/// The bit of a bid.
+fn bit_of(bid: usize) -> u64 {
+    if bid < 64 { 1u64 << bid } else { 0 }
+}
+
+/// Whether the bid is one of the member's.
+fn is_bid(problem: &Problem, member: u32, bid: u32) -> bool
+    requires member { member < length problem.now.base.members }
+    ensures bid { IsTrue result → bid < length (bids_of problem.now member) }
+{
+    let lists = problem.bids.as_slice();
+    (bid as usize) < lists[member as usize].len()
+}
+
+/// Whether the line grants the bid.
+pub fn is_granted(problem: &Problem, member: u32, bid: u32, line: &Line) -> bool {
+    if !is_member(problem, member) || !are_known(problem, line.pairings()) {
+        return false;
+    }
+    is_bid(problem, member, bid) && granted(problem, member, bid, line)
+}
+
+/// Offers a line to the pool, where it is a member's of the problem that the pool was made for.
+fn offer(pool: &mut Pool, problem: &Problem, member: u32, line: Line) -> Result<(), Memory> {
+    if !pool.fits(problem) || !is_member(problem, member) || !are_known(problem, line.pairings()) {
+        return Ok(());
+    }
+    match pool.offer(member, line) {
+        Ok(()) => Ok(()),
+        Err(_line) => Err(Memory::NoMemory),
+    }
+}
+
+impl Flat {
+    /// The pairings of the line of a number.
+    fn line(&self, place: usize) -> &[u32] {
+        let from = match place.checked_sub(1) {
+            Some(before) => self.ends.get(before).copied().unwrap_or(0),
+            None => 0,
+        };
+        let to = self.ends.get(place).copied().unwrap_or(0);
+        self.pairings.get(from..to).unwrap_or(&[])
+    }
+
+    /// Adds a line.
+    fn add(&mut self, line: &[u32]) -> Result<(), Memory> {
+        self.pairings.extend_from_slice(line)?;
+        self.ends.push(self.pairings.len())?;
+        Ok(())
+    }
+}
+
+impl Profile {
+    /// Whether the line is legal.
+    fn is_legal(&self) -> bool {
+        self.broken.is_none()
+    }
+
+    /// Whether a relaxation of the goal may use the line: it is legal, and reaches the floor and grants the bid if the
+    /// bids that can't be tracked count as granted.
+    pub fn may_serve(&self, goal: &Goal, member: usize) -> bool {
+        let floor = floor_of(goal, member);
+        self.is_legal() && self.may_score >= floor && bid_asked(goal, member) & !self.may_grant == 0
+    }
+
+    /// Whether the line is legal, and meets the goal.
+    pub fn serves(&self, goal: &Goal, member: usize) -> bool {
+        let floor = floor_of(goal, member);
+        self.is_legal() && self.score >= floor && bid_asked(goal, member) & !self.grants == 0
+    }
+}
+
+/// The member's floor, or 0.
+pub(crate) fn floor_of(goal: &Goal, member: usize) -> u32 {
+    match goal.floors.as_slice().get(member) {
+        Some(floor) => *floor,
+        None => 0,
+    }
+}
+
+/// The bit of the goal's bid, where that is the member's.
+fn bid_asked(goal: &Goal, member: usize) -> u64 {
+    match goal.grant {
+        Some(bid) => {
+            if bid.member as usize == member {
+                bit_of(bid.bid as usize)
+            } else {
+                0
+            }
+        }
+        None => 0,
+    }
+}
+
+impl Kept {
+    /// No lines, and the first lenses.
+    pub fn new(alloc: Global, problem: &Problem) -> Result<Kept, Memory> {
+        let mut profiles = Vec::new(alloc);
+        let mut flats = Vec::new(alloc);
+        for _member in 0..problem.base.members.len() {
+            profiles.push(Vec::new(alloc))?;
+            flats.push(Flat {
+                pairings: Vec::new(alloc),
+                ends: Vec::new(alloc),
+            })?;
+        }
+        Ok(Kept {
+            pool: Pool::new(alloc, problem)?,
+            flats,
+            profiles,
+            lenses: first_lenses(alloc, problem)?,
+            turn: 0,
+        })
+    }
+
+    /// The lens with which the member's searches begin, once more.
+    pub fn lens(&self, alloc: Global, problem: &Problem, member: usize) -> Result<Lens, Memory> {
+        match self.lenses.as_slice().get(member) {
+            Some(lens) => lens.copy(alloc),
+            None => Ok(first_lens(alloc, problem, member)),
+        }
+    }
+
+    /// Lets the member's searches begin with this lens.
+    pub fn look_through(&mut self, member: usize, lens: Lens) {
+        if member < self.lenses.len() {
+            *self.lenses.at_mut(member) = lens;
+        }
+    }
+
+    /// Whose turn it is to be priced first, of so many members: each time the next one's.
+    pub fn next_turn(&mut self, members: usize) -> usize {
+        self.turn = self.turn.wrapping_add(1).checked_rem(members).unwrap_or(0);
+        self.turn
+    }
+
+    /// How many lines of a member are kept.
+    pub fn len(&self, member: usize) -> usize {
+        match self.profiles.get(member) {
+            Some(profiles) => profiles.len(),
+            None => 0,
+        }
+    }
+
+    /// What is known of a line.
+    pub fn profile(&self, member: usize, place: usize) -> Option<&Profile> {
+        self.profiles.get(member)?.get(place)
+    }
+
+    /// The rule that a line breaks, if any.
+    pub fn broken(&self, member: usize, place: usize) -> Option<Illegal> {
+        self.profile(member, place)?.broken
+    }
+
+    /// The kept line of a number.
+    fn find(&self, member: usize, place: usize) -> Option<&Line> {
+        let owner = number(member);
+        if (owner as usize) < self.pool.len() {
+            self.pool.get(owner, number(place))
+        } else {
+            None
+        }
+    }
+
+    /// The pairings of a line.
+    pub fn pairings(&self, member: usize, place: usize) -> &[u32] {
+        match self.flats.get(member) {
+            Some(flat) => flat.line(place),
+            None => &[],
+        }
+    }
+
+    /// The line once more.
+    pub fn line(&self, alloc: Global, member: usize, place: usize) -> Result<Option<Line>, Memory> {
+        match self.find(member, place) {
+            Some(line) => Ok(Some(line.copy(alloc)?)),
+            None => Ok(None),
+        }
+    }
+
+    /// The number of a line of these pairings, if it is kept.
+    fn place_of(&self, member: usize, pairings: &PairingSet) -> Option<usize> {
+        let profiles = self.profiles.get(member)?;
+        profiles.iter().position(|kept| kept.pairings == *pairings)
+    }
+
+    /// Keeps a line, and says its number; none where there is no room for it.
+    pub fn keep(
+        &mut self,
+        alloc: Global,
+        problem: &Problem,
+        member: usize,
+        line: Line,
+    ) -> Result<Option<usize>, Memory> {
+        let owner = number(member);
+        let pairings = PairingSet::of(line.pairings());
+        if let Some(place) = self.place_of(member, &pairings) {
+            return Ok(Some(place));
+        }
+        let mut profile = known_of(problem, owner, &line, pairings);
+        profile.broken = broken(alloc, problem, owner, &line)?;
+        let place = self.len(member);
+        offer(&mut self.pool, problem, owner, line)?;
+        let (Some(profiles), Some(flat)) = (
+            self.profiles.get_mut(member),
+            self.flats.get_mut(member),
+        ) else {
+            return Ok(None);
+        };
+        if (owner as usize) >= self.pool.len() {
+            return Ok(None);
+        }
+        let Some(kept) = self.pool.get(owner, number(place)) else {
+            return Ok(None);
+        };
+        flat.add(kept.pairings())?;
+        profiles.push(profile)?;
+        Ok(Some(place))
+    }
+}

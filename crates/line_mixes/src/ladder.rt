@@ -1,0 +1,122 @@
+//! Lenses that look at more and more.
+
+use duty_calendar::{List, Memory};
+use line_legality::Illegal;
+use roster_model::{Lens, Problem, Window, WindowKind, Wish};
+use std::alloc::Global;
+
+/// How many windows a lens may look at.
+const MOST_WINDOWS: usize = 16;
+
+/// With how many windows a search begins at most: labels that count more are dear.
+const FIRST_WINDOWS: usize = 4;
+
+/// Whether one pairing of a line can decide the wish.
+pub(crate) fn is_trackable(wish: &Wish) -> bool {
+    match wish {
+        Wish::Fly(_) | Wish::Avoid(_) | Wish::Off(_, _) => true,
+        Wish::Prefer(least, _) => *least == 1,
+        Wish::CreditBelow(_) | Wish::CreditAbove(_) | Wish::DaysOff(_) => false,
+    }
+}
+
+/// The member's bids that can be tracked.
+fn trackable_bids(problem: &Problem, member: usize) -> u64 {
+    let mut tracked = 0;
+    if let Some(bids) = problem.bids.as_slice().get(member) {
+        for (number, bid) in bids.as_slice().iter().enumerate() {
+            if number < 64 && is_trackable(&bid.wish) {
+                tracked |= 1u64 << number;
+            }
+        }
+    }
+    tracked
+}
+
+/// The first lens of the ladder: credit in hours, and all bids that can be tracked.
+pub fn first_lens(alloc: Global, problem: &Problem, member: usize) -> Lens {
+    Lens {
+        grain: 60,
+        tracked: trackable_bids(problem, member),
+        free30: false,
+        days: false,
+        windows: List::new(alloc),
+    }
+}
+
+/// Whether the lens is the first one of its member.
+pub fn is_first(lens: &Lens) -> bool {
+    lens.grain == 60 && !lens.free30 && !lens.days && lens.windows.len() == 0
+}
+
+/// The first lenses of all members.
+pub fn first_lenses(alloc: Global, problem: &Problem) -> Result<List<Lens>, Memory> {
+    let mut lenses = List::new(alloc);
+    for member in 0..problem.base.members.len() {
+        if lenses.push(first_lens(alloc, problem, member)).is_err() {
+            return Err(Memory::NoMemory);
+        }
+    }
+    Ok(lenses)
+}
+
+/// The lens once more, with the last few of its windows.
+pub(crate) fn lately(alloc: Global, lens: &Lens) -> Result<Lens, Memory> {
+    let all = lens.windows.as_slice();
+    let from = all.len().saturating_sub(FIRST_WINDOWS);
+    let mut windows = List::new(alloc);
+    for window in all.get(from..).unwrap_or(&[]) {
+        if windows.push(*window).is_err() {
+            return Err(Memory::NoMemory);
+        }
+    }
+    Ok(Lens {
+        grain: lens.grain,
+        tracked: lens.tracked,
+        free30: lens.free30,
+        days: lens.days,
+        windows,
+    })
+}
+
+/// Sets a flag, and tells whether it was not set.
+fn set(flag: &mut bool) -> bool {
+    let was = *flag;
+    *flag = true;
+    !was
+}
+
+/// Makes the grain finer, and tells whether it could be.
+fn make_finer(grain: &mut u32) -> bool {
+    let finer = match *grain {
+        60 => 15,
+        15 => 5,
+        5 => 1,
+        _ => return false,
+    };
+    *grain = finer;
+    true
+}
+
+/// Adds a window, and tells whether there was room for it and it was not there.
+fn add_window(windows: &mut List<Window>, kind: WindowKind, start: u32) -> bool {
+    let window = Window { kind, start };
+    if windows.len() >= MOST_WINDOWS || windows.as_slice().contains(&window) {
+        return false;
+    }
+    windows.push(window).is_ok()
+}
+
+/// Lets the lens look at the rule that a line broke, and tells whether it did not before.
+pub(crate) fn refine(lens: &mut Lens, why: Illegal) -> bool {
+    match why {
+        Illegal::Credit(_) => make_finer(&mut lens.grain),
+        Illegal::DaysOff(_) => set(&mut lens.days),
+        Illegal::Free30(_) | Illegal::Night(_) => set(&mut lens.free30),
+        Illegal::Flight672(start) => add_window(&mut lens.windows, WindowKind::Flight672, start),
+        Illegal::Duty672(start) => add_window(&mut lens.windows, WindowKind::Duty672, start),
+        Illegal::Duty168(start) => add_window(&mut lens.windows, WindowKind::Duty168, start),
+        Illegal::Flight365(last) => add_window(&mut lens.windows, WindowKind::Flight365, last),
+        Illegal::NoMemory | Illegal::Overlap(_) | Illegal::Rest(_) => false,
+    }
+}

@@ -1,0 +1,20 @@
+//! Lines that are found for the members of a node, what they weigh at given prices, and mixes of them that come near to
+//! the needs. Nothing is promised of them.
+#![tactic(auto)]
+
+mod board;
+mod columns;
+mod kept;
+mod ladder;
+mod mix;
+mod pairings;
+mod pricing;
+mod tested;
+
+pub use board::{Board, Row};
+pub use columns::Columns;
+pub use kept::{Kept, Profile, is_granted, is_member, number};
+pub use ladder::{first_lens, first_lenses, is_first};
+pub use mix::{Mix, Share, WHOLE, needed};
+pub use pairings::PairingSet;
+pub use pricing::{Care, Priced, price, price_afresh};

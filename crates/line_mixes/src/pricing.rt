@@ -1,0 +1,172 @@
+//! Legal lines of a member above a bound, by a ladder of lenses.
+ghost use Rattle.std.specs.Prelude.{◌≡◌};
+ghost use Rattle.roster_model.specs.Goals.{IsGoal};
+
+use crate::board::Row;
+use crate::kept::{Kept, number};
+use crate::ladder::{first_lens, lately, refine};
+use crate::tested::row_over;
+use duty_calendar::Memory;
+use line_generator::{Over, PricedLine};
+use roster_model::{Goal, Lens, Problem};
+use std::alloc::Global;
+
+/// How many steps a search may take where its answer is to close a node.
+const DEEP: u64 = 1_000_000;
+/// How many steps it may take in guesses at rosters.
+const SHALLOW: u64 = 20_000;
+/// How often a lens is made to look at more.
+const MOST_RUNGS: u32 = 24;
+
+/// How much care is taken: in the guess at a node, or in guesses at rosters.
+#[derive(Clone, Copy, PartialEq, Eq)]
+pub enum Care {
+    Fine,
+    Rough,
+}
+
+/// What is found above a bound.
+#[derive(Drop)]
+pub enum Priced {
+    /// The number of a kept line, and what it weighs.
+    Line(usize, i64),
+    /// No line passes this lens.
+    Nothing(Lens),
+    /// A search ran out of steps.
+    Unknown,
+}
+
+impl Care {
+    /// How many steps a search may take.
+    pub fn steps(self) -> u64 {
+        match self {
+            Care::Fine => DEEP,
+            Care::Rough => SHALLOW,
+        }
+    }
+
+    /// What counts as no miss.
+    pub fn little(self) -> i64 {
+        match self {
+            Care::Fine => 256,
+            Care::Rough => 2_048,
+        }
+    }
+}
+
+/// Keeps a line that was found. Answers that it is to serve, or lets the lens look at the rule that it breaks; the
+/// member's searches begin with what the lens saw lately from then on, or with the first one where it can't see more.
+fn look(
+    alloc: Global,
+    problem: &Problem,
+    kept: &mut Kept,
+    member: usize,
+    lens: &mut Lens,
+    priced: PricedLine,
+) -> Result<(Option<Priced>, bool), Memory> {
+    let Some(place) = kept.keep(alloc, problem, member, priced.line)? else {
+        return Ok((None, true));
+    };
+    let found = Some(Priced::Line(place, priced.weight));
+    let Some(why) = kept.broken(member, place) else {
+        return Ok((found, true));
+    };
+    let is_finer = refine(lens, why);
+    if is_finer {
+        kept.look_through(member, lately(alloc, lens)?);
+    } else {
+        kept.look_through(member, first_lens(alloc, problem, member));
+    }
+    Ok((found, !is_finer))
+}
+
+/// As `price`, by a ladder that begins with this lens.
+fn price_from(
+    alloc: Global,
+    problem: &Problem,
+    kept: &mut Kept,
+    member: usize,
+    goal: &Goal,
+    row: &Row,
+    weights: &[i64],
+    over: i64,
+    care: Care,
+    lens: Lens,
+) -> Result<Priced, Memory>
+    requires goal { IsGoal problem.now goal.now }
+{
+    let mut lens = lens;
+    let mut found = Priced::Unknown;
+    for _ in 0..MOST_RUNGS {
+        let steps = care.steps();
+        let answer = row_over(
+            alloc,
+            problem,
+            number(member),
+            goal,
+            row,
+            &lens,
+            weights,
+            over,
+            steps,
+        )?;
+        let priced = match answer {
+            Over::Line(priced) => priced,
+            Over::Nothing => return Ok(Priced::Nothing(lens)),
+            Over::Limit => return Ok(found),
+        };
+        let (next, is_last) = look(alloc, problem, kept, member, &mut lens, priced)?;
+        if let Some(next) = next {
+            found = next;
+        }
+        if is_last {
+            return Ok(found);
+        }
+    }
+    Ok(found)
+}
+
+/// A legal line of the member above the bound, or that none passes a lens. Where searches for a legal one run out of
+/// steps, an illegal one may be answered. The ladder begins with the lens that sees the rules which lines broke before.
+pub fn price(
+    alloc: Global,
+    problem: &Problem,
+    kept: &mut Kept,
+    member: usize,
+    goal: &Goal,
+    row: &Row,
+    weights: &[i64],
+    over: i64,
+    care: Care,
+) -> Result<Priced, Memory>
+    requires goal { IsGoal problem.now goal.now }
+{
+    let lens = kept.lens(alloc, problem, member)?;
+    price_from(
+        alloc, problem, kept, member, goal, row, weights, over, care, lens,
+    )
+}
+
+/// As `price`, by a ladder that begins with the first lens, so that the last one sees no more than it has to. Other
+/// searches of the member begin as before.
+pub fn price_afresh(
+    alloc: Global,
+    problem: &Problem,
+    kept: &mut Kept,
+    member: usize,
+    goal: &Goal,
+    row: &Row,
+    weights: &[i64],
+    over: i64,
+    care: Care,
+) -> Result<Priced, Memory>
+    requires goal { IsGoal problem.now goal.now }
+{
+    let before = kept.lens(alloc, problem, member)?;
+    let lens = first_lens(alloc, problem, member);
+    let priced = price_from(
+        alloc, problem, kept, member, goal, row, weights, over, care, lens,
+    )?;
+    kept.look_through(member, before);
+    Ok(priced)
+}

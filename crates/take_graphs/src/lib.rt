@@ -1,0 +1,11 @@
+//! Graphs that pass over an item or take it, whose chains are the lens lines of a member.
+#![tactic(auto)]
+
+mod choices;
+mod start;
+mod take_desk;
+mod take_lines;
+mod takes;
+
+pub use take_desk::TakeDesk;
+pub use take_lines::{TakeEnds, TakeGraph, TakeLabel, take_graph};
