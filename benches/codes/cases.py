@@ -6,6 +6,7 @@ new one; or with the text that the file holds from then on; or with nothing, and
 import datetime
 
 ONE, TWO, FOUR, SIXTY, NONE = "one-pilot", "two-pilots-seniority", "four-pilots", "sixty-hours", "no-roster"
+TRADES = "trades"
 HEAD = "member,kind,report,parked,release,legs,credit\n"
 PRICED = """pbs-certificate 1
 award 2 1
@@ -20,6 +21,24 @@ proof 1
 weights 2 -1
 lens 60 0000000000000001 0 0
 lens 60 0000000000000001 0 0
+line
+line 1
+end
+"""
+PRICED_TWO = """pbs-certificate 2
+award 2 1
+proof 1 1
+lens 60 0000000000000000 0 0
+noline 1 1
+proof 1 1
+lens 60 0000000000000001 0 0
+weights 1 1:-1
+by 1 1
+shown 1 2
+proof 1 1
+lens 60 0000000000000001 0 0
+weights 1 1:-1
+by 1 1
 line
 line 1
 end
@@ -82,7 +101,7 @@ STATUSES = [
     check("yes", ONE),
     check("yes none", NONE),
     ("usage: pbs FOLDER award [--nodes N] | check | show MEMBER | make NUMBER MEMBERS PAIRINGS | "
-     "trial NUMBER MEMBERS PAIRINGS [--nodes N]", ONE, ["award", "--nodes", "0"], ()),
+     "trial NUMBER MEMBERS PAIRINGS [--nodes N] | migrate | trade | calendar MEMBER", ONE, ["award", "--nodes", "0"], ()),
     check("missing legs.csv", ONE, ("legs.csv",)),
     check("missing rules.toml", "no-such-month"),
     check("read fault crew.csv", ONE, ("crew.csv", "a folder")),
@@ -166,12 +185,36 @@ BIDS = [
 ]
 
 CERTIFICATES = [
-    check("no certificate 1 1", ONE, ("certificate.txt", "pbs-certificate 1", "pbs-certificate 2")),
+    check("no certificate 1 1", ONE, ("certificate.txt", "pbs-certificate 1", "pbs-certificate 3")),
     check("no certificate 4 2", ONE, ("certificate.txt", "split 1 1", "divide 1 1")),
     check("no certificate 4 3", ONE, ("certificate.txt", "split 1 1", "split 1")),
     check("no certificate 7 4", ONE, ("certificate.txt", "count 1\nend\n", "count 1\n")),
     check("no certificate 8 5", ONE, ("certificate.txt", "end\n", "end\nend\n")),
     check("no certificate 2 6", ONE, ("certificate.txt", "award 1 0", "award 201 0")),
+    check("no certificate 9 3", TWO, ("certificate.txt", PRICED_TWO.replace("by 1 1", "by 1 2", 1))),
+    check("no 4 2 1 9 0 0", TWO, ("certificate.txt", PRICED_TWO.replace("weights 1 1:-1", "weights 1", 1))),
+    check("yes", TWO, ("certificate.txt", PRICED_TWO)),
+    ("migrated 1", TWO, ["migrate"], (("certificate.txt", PRICED),)),
+    ("migrated 2", TWO, ["migrate"], (("certificate.txt", PRICED_TWO),)),
+]
+
+TRADED = [
+    ("trade 1 ok", TRADES, ["trade"], ()),
+    ("no trades 1 1", TRADES, ["trade"], (("trades.txt", "move M1 P2 M2\r\n"),)),
+    ("no trades 1 2", TRADES, ["trade"], (("trades.txt", "move M9 P2 M2\n"),)),
+    ("no trades 1 3", TRADES, ["trade"], (("trades.txt", "move M1 P9 M2\n"),)),
+    ("no trades 10001 4", TRADES, ["trade"], (("trades.txt", "move M1 P2 M2\n" * 10001),)),
+    ("trade 1 1", TRADES, ["trade"], (("trades.txt", "swap M1 P2 M1 P2\n"),)),
+    ("trade 1 2 1 1", TRADES, ["trade"], (("trades.txt", "move M1 P1 M2\n"),)),
+    ("trade 1 3 2 2", TRADES, ["trade"], (("pairings.csv", "P2,1", "P2,2"), ("crew.csv", "M2,5:00,5:00", "M2,5:00,10:00"),
+                                          ("roster.csv", "M2,P1,5:00", "M2,P1 P2,10:00"), ("trades.txt", "move M1 P2 M2\n"))),
+    ("trade 1 4 1 8 0", TRADES, ["trade"], (("trades.txt", "move M1 P2 M2\n"),)),
+]
+
+CALENDARS = [
+    ("calendar M1 1", ONE, ["calendar", "M1"], ()),
+    ("no events M2", TWO, ["calendar", "M2"], ()),
+    ("no member M9", ONE, ["calendar", "M9"], ()),
 ]
 
 ROSTERS = [
@@ -234,4 +277,4 @@ JUDGED = [
     check("no 7 2 1", TWO, ("reasons.txt", "place 1 M1", "place 2 M2")),
 ]
 
-CASES = STATUSES + RULES + FILES + BIDS + CERTIFICATES + ROSTERS + REASONS + LINES + ITEMS + JUDGED
+CASES = (STATUSES + RULES + FILES + BIDS + CERTIFICATES + ROSTERS + REASONS + LINES + ITEMS + JUDGED + TRADED + CALENDARS)
