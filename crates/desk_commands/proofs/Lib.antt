@@ -1,0 +1,5 @@
+pub mod CalendarNames
+pub mod CalendarSizes
+pub mod CalendarDated
+pub mod CalendarHeld
+pub mod CalendarLaws

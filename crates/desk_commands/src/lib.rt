@@ -1,0 +1,8 @@
+//! What each command over an award that stands does with the files of a folder: its answer as a value, with no text of it.
+#![tactic(auto)]
+
+mod calendar_stop;
+mod calendars;
+
+pub use calendar_stop::{CalendarStop, Undated};
+pub use calendars::{MemberCalendar, calendar};
