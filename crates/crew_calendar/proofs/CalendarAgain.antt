@@ -1,5 +1,5 @@
 -- Bytes that say a calendar, read.
-use Rattle.std.proofs.Common.{◌≡◌, ℕ, zero, suc, ◌+◌, ◌≤◌, true, false, Bool, List, [], ◌∷◌, ◌++◌, map, length, Option, Some, None, Ok, All, refl, sym, ap, ◌∙◌, arith, append_assoc, append-nil}
+use Rattle.std.proofs.Common.{◌≡◌, ℕ, zero, suc, ◌+◌, ◌≤◌, true, false, List, [], ◌∷◌, ◌++◌, map, length, Option, Some, None, Ok, All, refl, sym, ap, ◌∙◌, arith, append_assoc, append-nil}
 use Rattle.std.specs.List.{list_all, flat_map}
 use Rattle.std.specs.Str.{bytes_eq}
 use Rattle.std.proofs.lemmas.Bool.{and_from}
@@ -12,7 +12,7 @@ use Rattle.crew_calendar.specs.declared.types.CalendarEntry.{CalendarEntry}
 use Rattle.crew_calendar.specs.Folding.{Row, is_inner, content_of, unfolded, ended}
 use Rattle.crew_calendar.specs.Texts.{is_text, text_in}
 use Rattle.crew_calendar.specs.Moments.{is_moment, moment_text}
-use Rattle.crew_calendar.specs.Seen.{Entry, Book, seen, entry_seen, IsEntry, IsCalendar}
+use Rattle.crew_calendar.specs.Seen.{Entry, seen, entry_seen, IsEntry}
 use Rattle.crew_calendar.specs.Printing.{first_line, version_line, product_line, open_line, uid_head, stamp_head, start_head, stop_head, summary_head, text_head, close_line, last_line, head_lines}
 use Rattle.crew_calendar.specs.Content.{IsEntryLines, AreEntryLines, Says}
 use Rattle.crew_calendar.specs.Reading.{Sheet, blank, next_line, uid_line, is_stamp, stamp_line, start_line, stop_line, summary_line, text_line, sheet_line, sheet_row, book_of, rows_from, calendar_in}

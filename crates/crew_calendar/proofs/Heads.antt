@@ -13,8 +13,12 @@ word_lines = (refl, refl, refl, refl, refl, refl)
 pub words_inner : (list_all is_inner first_line ≡ true) × (list_all is_inner version_line ≡ true) × (list_all is_inner product_line ≡ true)
     × (list_all is_inner open_line ≡ true) × (list_all is_inner close_line ≡ true) × (list_all is_inner last_line ≡ true)
 words_inner = (
-  line_inner first_line word_lines.0, line_inner version_line word_lines.1, line_inner product_line word_lines.2,
-  line_inner open_line word_lines.3, line_inner close_line word_lines.4, line_inner last_line word_lines.5,
+  line_inner first_line word_lines.0,
+  line_inner version_line word_lines.1,
+  line_inner product_line word_lines.2,
+  line_inner open_line word_lines.3,
+  line_inner close_line word_lines.4,
+  line_inner last_line word_lines.5,
 )
 
 module _ (v : List ℕ) (h : list_all is_inner v ≡ true) where

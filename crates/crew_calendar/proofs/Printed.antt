@@ -1,10 +1,10 @@
 -- The text of a calendar says the calendar, and no line of it has more than 75 bytes.
-use Rattle.std.proofs.Common.{◌≡◌, ℕ, true, List, [], ◌∷◌, ◌++◌, map, All, refl, ap, ◌∙◌, append_assoc}
+use Rattle.std.proofs.Common.{◌≡◌, ℕ, true, false, List, [], ◌∷◌, ◌++◌, map, All, refl, ap, ◌∙◌, append_assoc}
 use Rattle.std.specs.List.{list_all, flat_map}
 use Rattle.std.proofs.lemmas.Bool.{and_from}
 use Rattle.std.proofs.lemmas.List.Folds.{list_all-append}
 use Rattle.crew_calendar.specs.declared.types.Calendar.{Calendar}
-use Rattle.crew_calendar.specs.Folding.{is_inner, is_short, rows_of, text_of, unfolded}
+use Rattle.crew_calendar.specs.Folding.{is_inner, is_short, rows_of, unfolded}
 use Rattle.crew_calendar.specs.Texts.{escaped}
 use Rattle.crew_calendar.specs.Moments.{moment_text}
 use Rattle.crew_calendar.specs.Seen.{Entry, Book, seen, entry_seen, IsCalendar}

@@ -1,5 +1,5 @@
 -- What was read of a text is what its unfolded bytes say.
-use Rattle.std.proofs.Common.{◌≡◌, ◌≢◌, ℕ, zero, suc, ◌≤◌, Bool, true, false, List, [], ◌∷◌, ◌++◌, map, length, Option, Some, None, Result, Ok, Err, All, refl, sym, ap, subst, ◌∙◌, arith, append_assoc}
+use Rattle.std.proofs.Common.{◌≡◌, ℕ, zero, suc, ◌≤◌, Bool, true, false, List, [], ◌∷◌, ◌++◌, map, length, Result, Ok, Err, All, refl, sym, ap, subst, ◌∙◌, arith, append_assoc}
 use Rattle.std.specs.Prelude.{◌&&◌, ◌==◌, IfOk, if◌then◌else◌}
 use Rattle.std.specs.List.{list_all, flat_map}
 use Rattle.std.proofs.lemmas.Bool.{and_parts}
@@ -9,14 +9,13 @@ use Rattle.crew_calendar.specs.declared.types.Calendar.{Calendar}
 use Rattle.crew_calendar.specs.declared.types.CalendarEntry.{CalendarEntry}
 use Rattle.crew_calendar.specs.Folding.{Row, is_end, rows_with, content_of, last_row, ended, unfolded}
 use Rattle.crew_calendar.specs.Texts.{is_text}
-use Rattle.crew_calendar.specs.Moments.{moment_text}
 use Rattle.crew_calendar.specs.Seen.{Book, seen, entry_seen, HasMoments, IsTimed, IsEntry, IsCalendar}
-use Rattle.crew_calendar.specs.Printing.{head_lines, last_line, book_text}
+use Rattle.crew_calendar.specs.Printing.{book_text}
 use Rattle.crew_calendar.specs.Content.{Says}
-use Rattle.crew_calendar.specs.Reading.{blank, rows_from, calendar_in, no_memory, GivesWhole, Answers}
+use Rattle.crew_calendar.specs.Reading.{blank, calendar_in, GivesWhole, Answers}
 use Rattle.crew_calendar.proofs.CalendarAgain.{all_head, all_tail, said_read}
 use Rattle.crew_calendar.proofs.Printed.{text_says}
-use Rattle.crew_calendar.proofs.Said.{Lines, SayBook, RowsSay, rows_said, has_texts}
+use Rattle.crew_calendar.proofs.Said.{Lines, SayBook, rows_said, has_texts}
 use Rattle.crew_calendar.proofs.Same.{calendar_same}
 
 -- ---- whole lines put together again

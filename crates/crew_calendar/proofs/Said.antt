@@ -1,7 +1,7 @@
 -- What was read of lines is what they say.
-use Rattle.std.proofs.Common.{◌≡◌, ℕ, zero, suc, ◌+◌, ◌≤◌, Bool, true, false, List, [], ◌∷◌, ◌++◌, map, length, take, drop, Option, Some, None, Result, Ok, Err, refl, sym, ap, subst, ◌∙◌, arith, append_assoc, append-nil}
+use Rattle.std.proofs.Common.{◌≡◌, ℕ, ◌+◌, ◌≤◌, Bool, true, false, List, [], ◌∷◌, ◌++◌, map, length, take, drop, Option, Some, None, Result, Ok, Err, refl, sym, ap, subst, ◌∙◌, arith, append_assoc, append-nil}
 use Rattle.std.specs.Prelude.{◌&&◌, if◌then◌else◌}
-use Rattle.std.specs.List.{list_all, flat_map}
+use Rattle.std.specs.List.{list_all}
 use Rattle.std.specs.Str.{bytes_eq}
 use Rattle.std.proofs.lemmas.Bool.{and_parts, and_from}
 use Rattle.std.proofs.lemmas.List.{take-append-drop}
@@ -10,7 +10,6 @@ use Rattle.std.proofs.lemmas.Slice.Eq.{bytes_eq-Decides}
 use Rattle.field_text.specs.Steps.{◌>>=◌, or_fault}
 use Rattle.crew_calendar.specs.declared.fault.CalendarCode.{CalendarCode}
 use Rattle.crew_calendar.specs.declared.fault.CalendarCode.TheVariants as code
-use Rattle.crew_calendar.specs.declared.fault.CalendarFault.{CalendarFault}
 use Rattle.crew_calendar.specs.declared.sheet.Due.{Due}
 use Rattle.crew_calendar.specs.declared.sheet.Due.TheVariants.{First, Version, Product, Open, Next, Uid, Stamp, Start, Stop, Summary, Text, Close, Nothing}
 use Rattle.crew_calendar.specs.Folding.{Row, is_whole, is_inner}
