@@ -1,6 +1,9 @@
 -- What a member's calendar comes to as a file.
-use Rattle.std.proofs.Common.{◌≡◌, ℕ, ◌≤◌, List, [], ◌∷◌, length, map, None, Some, refl, sym, ap, ◌∙◌, arith, All}
+use Rattle.std.proofs.Common.{◌≡◌, ℕ, ◌≤◌, List, [], ◌∷◌, true, length, map, None, Some, refl, sym, ap, subst, ◌∙◌, arith, All}
+use Rattle.std.specs.Str.{IsAscii}
 use Rattle.std.proofs.lemmas.List.{length-map}
+use Rattle.duty_calendar.specs.Forms.{is_name}
+use Rattle.shelf.specs.Names.{IsName}
 use Rattle.crew_calendar.specs.declared.types.Calendar.{Calendar}
 use Rattle.crew_calendar.specs.declared.types.CalendarEntry.{CalendarEntry}
 use Rattle.crew_calendar.specs.Moments.{IsMoment}
@@ -11,6 +14,7 @@ use Rattle.roster_model.specs.declared.problem.Problem.{Problem}
 use Rattle.roster_text.specs.RosterText.{IsRoster}
 use Rattle.desk_commands.specs.Calendars.{IsDated, IsFileOf, ics_of}
 use Rattle.desk_commands.specs.declared.calendars.MemberCalendar.{MemberCalendar}
+use Rattle.desk_commands.proofs.CalendarNames.{file_ascii, file_named}
 use Rattle.desk_commands.proofs.CalendarSizes.{table_few}
 
 same_length : (c : Calendar) (book : Book) → seen c ≡ book → length c.entries ≡ length book.entries
@@ -39,3 +43,14 @@ dated_some name file bytes c book n e count some is text =
 
 pub can_print : (c : Calendar) (n : ℕ) → n ≡ length c.entries → 1 ≤ n → IsMoment c.stamp → All IsEntry c.entries → IsCalendar c
 can_print c n count some stamp each = record { stamp_form = stamp; some = omega (arith, count, some); each = each }
+
+-- the name of the file is that of a file
+module _ (name file bytes : List ℕ) (n : ℕ) (form : is_name name ≡ true) (is : file ≡ ics_of name) where
+  the_same : (x : MemberCalendar) → Some (record { file = file; bytes = bytes; entries = n }) ≡ Some x → file ≡ x.file
+  the_same x e = cc
+
+  pub ascii_some : (x : MemberCalendar) → Some (record { file = file; bytes = bytes; entries = n }) ≡ Some x → IsAscii x.file
+  ascii_some x e = subst (λ (l : List ℕ). IsAscii l) (the_same x e) (file_ascii name file form is)
+
+  pub named_some : (x : MemberCalendar) → Some (record { file = file; bytes = bytes; entries = n }) ≡ Some x → IsName x.file
+  named_some x e = subst (λ (l : List ℕ). IsName l) (the_same x e) (file_named name file form is)

@@ -159,7 +159,11 @@ fn write_calendar<S: Shelf>(
         → FromReads calendar_order old (S.log shelf.old) (λ files. IsCalendarFile files name calendar)
         → IsCalendarHanded old (S.log shelf.new) name result }
 {
-    match shelf.write(alloc, text_of(calendar.file.as_slice()), calendar.bytes.as_slice()) {
+    match shelf.write(
+        alloc,
+        text_of(calendar.file.as_slice()),
+        calendar.bytes.as_slice(),
+    ) {
         Ok(()) => Ok(calendar),
         Err(ShelfFault::WriteFailed) => Err(CalendarStop::Unwritten(calendar, WriteStop::Fault)),
         Err(ShelfFault::NoMemory) => Err(CalendarStop::Unwritten(calendar, WriteStop::NoMemory)),

@@ -13,8 +13,7 @@ use std::alloc::Global;
 use std::process::Abort;
 
 /// The first three lines.
-const HEAD: &[u8] =
-    b"BEGIN:VCALENDAR\r\nVERSION:2.0\r\nPRODID:-//pbs//crew calendar//EN\r\n";
+const HEAD: &[u8] = b"BEGIN:VCALENDAR\r\nVERSION:2.0\r\nPRODID:-//pbs//crew calendar//EN\r\n";
 
 /// The first four lines.
 const OPENED: &[u8] =
@@ -41,13 +40,7 @@ const SPELT: &[u8] =
     b"BEGIN:VCALENDAR\r\nVERSION:2.0\r\nPRODID:-//pbs//crew calendar//EN\r\n\t\r\nBEGIN:VEVENT\r\nU\r\n ID:p.P1.M1.202606@pbs\r\nDTSTAMP:20260601T000000Z\r\nDTSTART:20260610T080000Z\r\nDTEND:20260612T153000Z\r\nSUMMARY:P\\\r\n\t,1\\;\\\\\r\nDESCRIPTION:1: DUB-LHR 09:00-13:00\\N2: LHR-ORD 09:00-17:00\\N3: ORD-DUB 11:00-15:00\r\nEND:VEVENT\r\nEND:VCALENDAR\r\n";
 
 /// Says that a member's calendar is printed as this text, which is read as the calendar.
-fn assert_calendar(
-    rt: &impl Abort,
-    alloc: Global,
-    problem: &Problem,
-    roster: &Roster,
-    text: &[u8],
-)
+fn assert_calendar(rt: &impl Abort, alloc: Global, problem: &Problem, roster: &Roster, text: &[u8])
     requires members { length problem.now.base.members ≡ 1 }
     requires lines { length roster.now ≡ length problem.now.base.members }
     requires in_range { All (All (λ p. p < length problem.now.base.pairings)) roster.now }
@@ -92,22 +85,57 @@ static FAULTS: [(&[u8], &[u8], u32, CalendarCode); 25] = [
     (b"", b"BEGIN:VCALENDAR", 1, CalendarCode::Break),
     (b"", b"BEGIN:VCALENDAR\n", 1, CalendarCode::Break),
     (b"", b"BEGIN:VCALENDAR\r", 1, CalendarCode::Break),
-    (b"", b"BEGIN:VCALENDAR\nVERSION:2.0\r\n", 1, CalendarCode::Break),
+    (
+        b"",
+        b"BEGIN:VCALENDAR\nVERSION:2.0\r\n",
+        1,
+        CalendarCode::Break,
+    ),
     (b"", b"begin:VCALENDAR\r\n", 1, CalendarCode::Name),
-    (b"BEGIN:VCALENDAR\r\n", b"VERSION:1.0\r\n", 2, CalendarCode::Name),
+    (
+        b"BEGIN:VCALENDAR\r\n",
+        b"VERSION:1.0\r\n",
+        2,
+        CalendarCode::Name,
+    ),
     (HEAD, b"", 4, CalendarCode::Name),
     (HEAD, b"END:VCALENDAR\r\n", 4, CalendarCode::Name),
-    (HEAD, b"BEGIN:VEVENT\r\nSUMMARY:P1\r\n", 5, CalendarCode::Name),
+    (
+        HEAD,
+        b"BEGIN:VEVENT\r\nSUMMARY:P1\r\n",
+        5,
+        CalendarCode::Name,
+    ),
     (OPENED, b"UID:a,b\r\n", 5, CalendarCode::Value),
     (OPENED, b"UID:a;b\r\n", 5, CalendarCode::Value),
     (OPENED, b"UID:a\\nb\r\n", 5, CalendarCode::Value),
     (OPENED, b"UID:a\\\r\n", 5, CalendarCode::Value),
     (OPENED, b"UID:\x7f\r\n", 5, CalendarCode::Value),
     (OPENED, b"UID:a\nb\r\n", 5, CalendarCode::Break),
-    (NAMED, b"DTSTAMP:20260631T000000Z\r\n", 6, CalendarCode::Value),
-    (NAMED, b"DTSTAMP:20260601T240000Z\r\n", 6, CalendarCode::Value),
-    (NAMED, b"DTSTAMP:20260601T000001Z\r\n", 6, CalendarCode::Value),
-    (NAMED, b"DTSTAMP:20260601T000000\r\n", 6, CalendarCode::Value),
+    (
+        NAMED,
+        b"DTSTAMP:20260631T000000Z\r\n",
+        6,
+        CalendarCode::Value,
+    ),
+    (
+        NAMED,
+        b"DTSTAMP:20260601T240000Z\r\n",
+        6,
+        CalendarCode::Value,
+    ),
+    (
+        NAMED,
+        b"DTSTAMP:20260601T000001Z\r\n",
+        6,
+        CalendarCode::Value,
+    ),
+    (
+        NAMED,
+        b"DTSTAMP:20260601T000000\r\n",
+        6,
+        CalendarCode::Value,
+    ),
     (ENTRY, b"", 12, CalendarCode::Name),
     (
         ENTRY,
