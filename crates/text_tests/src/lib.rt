@@ -1,8 +1,10 @@
-//! Worked rows of bids, certificates, rosters and reasons as text.
+//! Worked rows of bids, certificates, rosters, reasons and calendars as text.
 #![tactic(auto)]
 
 #[cfg(test)]
 mod bids;
+#[cfg(test)]
+mod calendars;
 #[cfg(test)]
 mod certificates;
 #[cfg(test)]
