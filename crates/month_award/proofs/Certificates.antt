@@ -10,6 +10,7 @@ use Rattle.roster_model.specs.Splits.{splits_in, all_splits, shown_splits}
 use Rattle.cert_text.specs.declared.limits.TheConstants.{MOST_PROOFS, MOST_SHOWN}
 use Rattle.cert_text.specs.Limits.{is_few, is_proof, is_shown}
 use Rattle.cert_text.specs.Spelling.{line_text, proof_text, shown_text, body_text, certificate_text}
+use Rattle.cert_text.specs.declared.version.Version.TheVariants.{One}
 use Rattle.month_award.specs.Months.{IsWritable}
 use Rattle.month_award.proofs.Numbers.{within}
 use Rattle.month_award.proofs.Lengths.{number-length, words-more, words-one, line-length}
@@ -19,18 +20,18 @@ use Rattle.month_award.proofs.Rosters.{rows_most}
 use Rattle.month_award.proofs.Parts.{part_most, parts_most, AreTidyParts, parts-fit, parts-length}
 
 -- the lines around the body
-frame-length : (c : Certificate) → length (certificate_text c) ≡ 22 + length (body_text c)
+frame-length : (c : Certificate) → length (certificate_text One c) ≡ 22 + length (body_text One c)
 unfolding certificate_text
 frame-length c =
     let first = line_text (codes "pbs-certificate") (codes "1" ∷ []) in
     let last = line_text (codes "end") [] in
     let eighteen : length first ≡ 18 = refl in
     let four : length last ≡ 4 = refl in
-    omega (arith, length-append first (body_text c ++ last), length-append (body_text c) last, eighteen, four)
+    omega (arith, length-append first (body_text One c ++ last), length-append (body_text One c) last, eighteen, four)
 
 award-body : (proofs : List (List Item)) (shown : List Shown) → length proofs ≤ 200 → length shown ≤ 12800
-    → length (body_text (form.Award (record { proofs = proofs; shown = shown })))
-    ≤ 28 + (length (flat_map proof_text proofs) + length (flat_map shown_text shown))
+    → length (body_text One (form.Award (record { proofs = proofs; shown = shown })))
+    ≤ 28 + (length (flat_map (proof_text One) proofs) + length (flat_map (shown_text One) shown))
 award-body proofs shown few_proofs few_parts =
     let words = decimal (length shown) ∷ [] in
     let head = line_text (codes "award") (decimal (length proofs) ∷ words) in
@@ -38,8 +39,8 @@ award-body proofs shown few_proofs few_parts =
     omega (
       arith,
       five,
-      length-append (head ++ flat_map proof_text proofs) (flat_map shown_text shown),
-      length-append head (flat_map proof_text proofs),
+      length-append (head ++ flat_map (proof_text One) proofs) (flat_map (shown_text One) shown),
+      length-append head (flat_map (proof_text One) proofs),
       line-length (codes "award") (decimal (length proofs) ∷ words),
       words-more (decimal (length proofs)) words,
       words-one (decimal (length shown)),
@@ -47,10 +48,10 @@ award-body proofs shown few_proofs few_parts =
       number-length (length shown) (omega (arith, few_parts)),
     )
 
-none-body : (proof : List Item) → length (body_text (form.NoRoster proof)) ≡ 5 + length (proof_text proof)
+none-body : (proof : List Item) → length (body_text One (form.NoRoster proof)) ≡ 5 + length (proof_text One proof)
 none-body proof =
     let five : length (line_text (codes "none") []) ≡ 5 = refl in
-    omega (arith, five, length-append (line_text (codes "none") []) (proof_text proof))
+    omega (arith, five, length-append (line_text (codes "none") []) (proof_text One proof))
 
 -- so many proofs and parts with so many splits fit in the file
 file-room : (a b proofs parts rest : ℕ) → a + b ≤ 20000 → proofs ≤ 200 → parts ≤ 12800 → rest ≤ 100

@@ -17,6 +17,7 @@ use Rattle.roster_model.specs.Splits.{is_split, splits_in, all_splits}
 use Rattle.cert_text.specs.declared.limits.TheConstants.{MOST_ITEMS}
 use Rattle.cert_text.specs.Limits.{is_few, is_item, is_proof}
 use Rattle.cert_text.specs.Spelling.{line_text, item_text, proof_text}
+use Rattle.cert_text.specs.declared.version.Version.TheVariants.{One}
 use Rattle.month_award.proofs.Numbers.{within}
 use Rattle.month_award.proofs.Lengths.{number-length, words-one, line-length}
 use Rattle.month_award.proofs.Leaves.{leaf_most, split_most, leaf-no_split, leaf-fits, leaf-length, split-fits, split-length}
@@ -99,7 +100,7 @@ closing-tidy problem goal node items (by_split node' m p flown not_flown pair fi
 pub proof-fits : (items : List Item) → IsTidy items → splits_in items ≤ 20000 → is_proof items ≡ true
 proof-fits items tidy few = and_from _ _ (within (length items) MOST_ITEMS (omega (arith, tidy.count, few))) tidy.fits
 
-pub proof-length : (items : List Item) → IsTidy items → splits_in items ≤ 20000 → length (proof_text items) ≤ head_most + items_most (splits_in items)
+pub proof-length : (items : List Item) → IsTidy items → splits_in items ≤ 20000 → length (proof_text One items) ≤ head_most + items_most (splits_in items)
 unfolding head_most
 proof-length items tidy few =
     let five : length (codes "proof") ≡ 5 = refl in
@@ -138,14 +139,14 @@ proofs-fit (proof ∷ proofs) tidy few =
     (proofs-fit proofs (λ k p here. tidy (suc k) p here) (omega (arith, is, few)))
 
 pub proofs-length : (proofs : List (List Item)) → AreTidy proofs → all_splits proofs ≤ 20000
-    → length (flat_map proof_text proofs) ≤ proofs_most (all_splits proofs) (length proofs)
+    → length (flat_map (proof_text One) proofs) ≤ proofs_most (all_splits proofs) (length proofs)
 proofs-length [] tidy few = omega arith
 proofs-length (proof ∷ proofs) tidy few =
     let is = all_splits-more proof proofs in
     let first = proof-length proof (tidy 0 proof refl) (omega (arith, is, few)) in
     let rest = proofs-length proofs (λ k p here. tidy (suc k) p here) (omega (arith, is, few)) in
     let room = proofs-room leaf_most split_most head_most (splits_in proof) (all_splits proofs) (length proofs)
-    (length (proof_text proof)) (length (flat_map proof_text proofs)) first rest in
+    (length (proof_text One proof)) (length (flat_map (proof_text One) proofs)) first rest in
     let same : proofs_most (all_splits (proof ∷ proofs)) (length (proof ∷ proofs)) ≡ proofs_most (splits_in proof + all_splits proofs) (suc (length proofs)) =
     ap (λ (n : ℕ). proofs_most n (suc (length proofs))) is in
-    omega (arith, length-append (proof_text proof) (flat_map proof_text proofs), room, same)
+    omega (arith, length-append (proof_text One proof) (flat_map (proof_text One) proofs), room, same)

@@ -15,6 +15,7 @@ use Rattle.roster_model.specs.Rosters.{scores_of}
 use Rattle.roster_model.specs.Splits.{splits_of, shown_splits}
 use Rattle.cert_text.specs.Limits.{is_shown, is_shown_proof, is_roster}
 use Rattle.cert_text.specs.Spelling.{line_text, flag_text, row_text, has_proof, rows_of, shown_proof_text, shown_text}
+use Rattle.cert_text.specs.declared.version.Version.TheVariants.{One}
 use Rattle.month_award.proofs.Lengths.{three-digits, flag-length, words-more, words-one, line-length}
 use Rattle.month_award.proofs.Leaves.{leaf_most, split_most}
 use Rattle.month_award.proofs.Closings.{head_most, items_most, IsTidy, closing-tidy, proof-fits, proof-length, proofs-room}
@@ -52,7 +53,7 @@ roster_part-fits None short = refl
 roster_part-fits (Some rows) short = (short rows refl).fits
 
 proof_part-length : (proof : Option (List Item)) → ForSome proof IsTidy → splits_of proof ≤ 20000
-    → length (shown_proof_text proof) ≤ head_most + items_most (splits_of proof)
+    → length (shown_proof_text One proof) ≤ head_most + items_most (splits_of proof)
 proof_part-length None tidy few = omega arith
 proof_part-length (Some items) tidy few = proof-length items (tidy items refl) few
 
@@ -72,7 +73,7 @@ part-fits : (part : Shown) → IsTidyPart part → splits_of part.proof ≤ 2000
 part-fits part tidy few = and_from _ _ (proof_part-fits part.proof tidy.proof few) (roster_part-fits part.roster tidy.roster)
 
 part-length : (part : Shown) → IsTidyPart part → splits_of part.proof ≤ 20000
-    → length (shown_text part) ≤ part_most + items_most (splits_of part.proof)
+    → length (shown_text One part) ≤ part_most + items_most (splits_of part.proof)
 unfolding part_most
 part-length part tidy few =
     let five : length (codes "shown") ≡ 5 = refl in
@@ -82,8 +83,8 @@ part-length part tidy few =
     omega (
       arith,
       five,
-      length-append (head ++ shown_proof_text part.proof) (flat_map row_text rows),
-      length-append head (shown_proof_text part.proof),
+      length-append (head ++ shown_proof_text One part.proof) (flat_map row_text rows),
+      length-append head (shown_proof_text One part.proof),
       line-length (codes "shown") (flag_text (has_proof part.proof) ∷ decimal (length rows) ∷ []),
       words-more (flag_text (has_proof part.proof)) (decimal (length rows) ∷ []),
       words-one (decimal (length rows)),
@@ -109,14 +110,14 @@ parts-fit (part ∷ shown) tidy few =
     (parts-fit shown (λ k p here. tidy (suc k) p here) (omega (arith, is, few)))
 
 pub parts-length : (shown : List Shown) → AreTidyParts shown → shown_splits shown ≤ 20000
-    → length (flat_map shown_text shown) ≤ parts_most (shown_splits shown) (length shown)
+    → length (flat_map (shown_text One) shown) ≤ parts_most (shown_splits shown) (length shown)
 parts-length [] tidy few = omega arith
 parts-length (part ∷ shown) tidy few =
     let is = shown_splits-more part shown in
     let first = part-length part (tidy 0 part refl) (omega (arith, is, few)) in
     let rest = parts-length shown (λ k p here. tidy (suc k) p here) (omega (arith, is, few)) in
     let room = proofs-room leaf_most split_most part_most (splits_of part.proof) (shown_splits shown) (length shown)
-    (length (shown_text part)) (length (flat_map shown_text shown)) first rest in
+    (length (shown_text One part)) (length (flat_map (shown_text One) shown)) first rest in
     let same : parts_most (shown_splits (part ∷ shown)) (length (part ∷ shown)) ≡ parts_most (splits_of part.proof + shown_splits shown) (suc (length shown)) =
     ap (λ (n : ℕ). parts_most n (suc (length shown))) is in
-    omega (arith, length-append (shown_text part) (flat_map shown_text shown), room, same)
+    omega (arith, length-append (shown_text One part) (flat_map (shown_text One) shown), room, same)
