@@ -1,26 +1,26 @@
 //! How each answer of a command ends a run, and the text that it prints.
 #![tactic(auto)]
 
-mod award_text;
-mod calendar_text;
-mod check_text;
+mod award_ends;
+mod calendar_ends;
+mod check_ends;
 mod lines;
-mod make_text;
-mod migrate_text;
+mod make_ends;
+mod migrate_ends;
 mod month_ends;
-mod show_text;
+mod show_ends;
 mod status;
-mod trade_text;
-mod trial_text;
+mod trade_ends;
+mod trial_ends;
 mod write_ends;
 
-pub use award_text::{award_status, award_text};
-pub use calendar_text::{calendar_status, calendar_text};
-pub use check_text::{check_status, check_text};
+pub use award_ends::{award_status, award_text};
+pub use calendar_ends::{calendar_status, calendar_text};
+pub use check_ends::{check_status, check_text};
 pub use lines::line_text;
-pub use make_text::{make_status, make_text};
-pub use migrate_text::{migrate_status, migrate_text};
-pub use show_text::{show_status, show_text};
+pub use make_ends::{make_status, make_text};
+pub use migrate_ends::{migrate_status, migrate_text};
+pub use show_ends::{show_status, show_text};
 pub use status::Status;
-pub use trade_text::{trade_status, trade_text};
-pub use trial_text::{trial_status, trial_text};
+pub use trade_ends::{trade_status, trade_text};
+pub use trial_ends::{trial_status, trial_text};

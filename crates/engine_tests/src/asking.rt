@@ -22,7 +22,10 @@ fn assert_asked(
     place_all(rt, alloc, &mut shelf, changed);
     let outcome = run_over(rt, alloc, words, &mut shelf, &[]);
     assert_ends(rt, &outcome, *status, text);
-    assert_eq!(rt; shelf.file(name), held.map(|text| text.as_bytes()));
+    match held {
+        Some(held) => assert_eq!(rt; shelf.file(name), Some(held.as_bytes())),
+        None => assert!(rt; shelf.file(name).is_none()),
+    }
 }
 
 /// The same, row by row.

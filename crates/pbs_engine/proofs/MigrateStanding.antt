@@ -33,7 +33,7 @@ use Rattle.pbs_engine.proofs.Answering.{of_migrate, said_by, on_reads}
 use Rattle.pbs_engine.proofs.AwardStanding.{other_file, certificate_stands}
 use Rattle.pbs_engine.proofs.Standing.{there}
 
-has_certificate : (files : Files) (m : Migrated) → IsMigrated files m → HasCertificate files m.version
+abbrev has_certificate : (files : Files) (m : Migrated) → IsMigrated files m → HasCertificate files m.version
 has_certificate files m h = record {
   text = h.text;
   there = there CertificateFile (file files (name_of CertificateFile)) h.text h.read;

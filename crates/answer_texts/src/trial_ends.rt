@@ -2,7 +2,7 @@
 ghost use Rattle.std.specs.Prelude.{◌≡◌, IfOk};
 ghost use Rattle.answer_texts.specs.TrialTexts.{trial_status, trial_text};
 
-use crate::award_text::{found_status, found_text};
+use crate::award_ends::{found_status, found_text};
 use crate::lines::numbered;
 use crate::status::Status;
 use duty_calendar::{List, Memory};

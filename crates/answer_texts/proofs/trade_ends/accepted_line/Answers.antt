@@ -1,5 +1,5 @@
 use Rattle.answer_texts.proofs.Texts.{accepted_whole}
-use Rattle.answer_texts.proofs.trade_text.accepted_line.Goals as goal
+use Rattle.answer_texts.proofs.trade_ends.accepted_line.Goals as goal
 
 pub returns : goal.returns
 returns c = record {

@@ -1,5 +1,5 @@
 use Rattle.answer_texts.proofs.Texts.{made_whole}
-use Rattle.answer_texts.proofs.make_text.made_line.Goals as goal
+use Rattle.answer_texts.proofs.make_ends.made_line.Goals as goal
 
 pub returns : goal.returns
 returns c = record {
