@@ -25,7 +25,8 @@ migrated_line version = line_of (codes "migrated") (version ∷ [])
 
 -- why the certificate is not written anew; where its text of version 2 is too long, line 0 stands for the whole of it
 abbrev pub unmigrated_text : Unmigrated → List ℕ
-unmigrated_text (unmigrated.Certificate fault) = line_of (codes "no certificate") (fault.line ∷ cert_code fault.code ∷ [])
+unmigrated_text (unmigrated.Certificate fault) =
+    line_of (codes "no certificate") (fault.line ∷ cert_code fault.code ∷ [])
 unmigrated_text unmigrated.TooLong = line_of (codes "no certificate") (0 ∷ 6 ∷ [])
 
 abbrev pub migrate_text : Result Migrated MigrateStop → List ℕ

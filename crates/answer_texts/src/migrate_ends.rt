@@ -38,10 +38,7 @@ fn unmigrated_line(alloc: Global, why: Unmigrated) -> Result<List<u8>, Memory>
 }
 
 /// The text of a run of `migrate`.
-pub fn migrate_text(
-    alloc: Global,
-    end: &Result<Migrated, MigrateStop>,
-) -> Result<List<u8>, Memory>
+pub fn migrate_text(alloc: Global, end: &Result<Migrated, MigrateStop>) -> Result<List<u8>, Memory>
     ensures value { IfOk result (λ t. t ≡ migrate_text end.now) }
 {
     match end {

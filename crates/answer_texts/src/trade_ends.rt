@@ -44,12 +44,7 @@ fn accepted_line(alloc: Global, number: u64) -> Result<List<u8>, Memory>
 }
 
 /// The line of a trade that a new line forbids.
-fn illegal_line(
-    alloc: Global,
-    number: u64,
-    member: u32,
-    why: Illegal,
-) -> Result<List<u8>, Memory>
+fn illegal_line(alloc: Global, number: u64, member: u32, why: Illegal) -> Result<List<u8>, Memory>
     ensures value { IfOk result (λ t. t ≡ line_of (codes "trade")
         (number ∷ refusal_numbers (Line member why))) }
 {
@@ -92,11 +87,7 @@ fn verdict_line(alloc: Global, number: u64, verdict: TradeVerdict) -> Result<Lis
 }
 
 /// Appends a line for each trade, which count from 1.
-fn put_verdicts(
-    alloc: Global,
-    out: &mut List<u8>,
-    verdicts: &[TradeVerdict],
-) -> Result<(), Memory>
+fn put_verdicts(alloc: Global, out: &mut List<u8>, verdicts: &[TradeVerdict]) -> Result<(), Memory>
     ensures whole { OnOk result (out.new ≡ out.old ++ verdict_lines 1 verdicts.now) }
 {
     for (i, verdict) in verdicts.iter().enumerate() {

@@ -103,7 +103,11 @@ const FAILING: [Failing; 8] = [
 ];
 
 /// Says how the words end over a shelf and a sink that fail at these calls.
-fn assert_fails(rt: &impl Abort, alloc: Global, (words, of_shelf, of_sink, status, text): &Failing) {
+fn assert_fails(
+    rt: &impl Abort,
+    alloc: Global,
+    (words, of_shelf, of_sink, status, text): &Failing,
+) {
     let failing = [*of_shelf].to_vec(alloc).expect(rt, "memory");
     let mut shelf = MemoryShelf::new(alloc, List::from_vec(failing));
     place_all(rt, alloc, &mut shelf, &SMALLEST);

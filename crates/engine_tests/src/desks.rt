@@ -23,8 +23,10 @@ const SHOWN_TWO: &str =
 /// The same with a weight of 0 in its second proof, with a lens that stands in no line, and of a version that is not there.
 const NO_WEIGHT: &str =
     "pbs-certificate 2\naward 2 1\nproof 1 1\nlens 60 0000000000000000 0 0\nnoline 1 1\nproof 1 1\nlens 60 0000000000000001 0 0\nweights 1\nby 1 1\nshown 1 2\nproof 1 1\nlens 60 0000000000000001 0 0\nweights 1 1:-1\nby 1 1\nline\nline 1\nend\n";
+
 const NO_LENS: &str =
     "pbs-certificate 2\naward 2 1\nproof 1 1\nlens 60 0000000000000000 0 0\nnoline 1 1\nproof 1 1\nlens 60 0000000000000001 0 0\nweights 1 1:-1\nby 1 2\nshown 1 2\nproof 1 1\nlens 60 0000000000000001 0 0\nweights 1 1:-1\nby 1 1\nline\nline 1\nend\n";
+
 const NO_VERSION: &str = "pbs-certificate 3\naward 2 0\nproof 0\nproof 0\nend\n";
 
 /// Certificates written anew, and checked in version 2.
@@ -105,11 +107,14 @@ pub(crate) const RESPELT: [Asked; 9] = [
 
 /// A roster of that month of two pairings, and the one after a swap.
 const AWARDED_ROSTER: &str = "member,pairings,credit,score\nM1,P2,5:00,10\nM2,P1,5:00,10\n";
+
 const SWAPPED: &str = "member,pairings,credit,score\nM1,P1,5:00,10\nM2,P2,5:00,0\n";
 
 /// Rosters in its place that are not complete, or no text of one.
 const EMPTY_LINE: &str = "member,pairings,credit,score\nM1,,0:00,0\nM2,P1,5:00,10\n";
+
 const SHARED: &str = "member,pairings,credit,score\nM1,P1,5:00,10\nM2,P1,5:00,10\n";
+
 const TURNED: &str = "member,pairings,credit,score\nM2,P1,5:00,10\nM1,P2,5:00,10\n";
 
 /// Trades that are taken, each on the roster that those before it left.

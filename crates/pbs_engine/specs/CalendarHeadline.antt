@@ -31,7 +31,8 @@ pub record EndsDated (old : Files) (new : Option Files) (name : List ℕ) (befor
   pub put : after ≡ with_piece before (calendar_line name entries)
 
 -- the roster's file is no roster's text, no member has the name, or the calendar has no entry
-pub record EndsUndated (old : Files) (new : Option Files) (name : List ℕ) (before after : Option (List ℕ)) : Type 0 where
+pub record EndsUndated (old : Files) (new : Option Files) (name : List ℕ)
+    (before after : Option (List ℕ)) : Type 0 where
   pub why : Undated
   pub undated : IsUndated old name why
   pub same : new ≡ Some old

@@ -26,8 +26,8 @@ pub record IsSpelt (text : List ℕ) (number : ℕ) (certificate : Certificate) 
   pub whole : text ≡ certificate_text version certificate
   pub read : certificate_in text ≡ Ok certificate
 
--- the certificate's file is the text of a certificate in the version of this number, and its text of version 2 is within the
--- file's limit
+-- the certificate's file is the text of a certificate in the version of this number, and that certificate's text of
+-- version 2 is within the file's limit
 pub record HasCertificate (files : Files) (number : ℕ) : Type 0 where
   pub text : List ℕ
   pub there : file files (name_of CertificateFile) ≡ Some text

@@ -21,9 +21,10 @@ use Rattle.answer_texts.specs.declared.status.Status.{Status}
 use Rattle.answer_texts.specs.declared.status.Status.TheVariants as status
 use Rattle.pbs_engine.specs.AwardHeadline.{Tells}
 
--- The roster's file is the text of a complete roster and the other file one of trades. The verdicts are theirs, each on the
--- roster that those before it left, and this is the roster that they leave at last: it is complete and has these scores.
-pub record AreTraded (files : Files) (verdicts : List TradeVerdict) (scores : List ℕ) (problem : Problem) (last : List (List ℕ)) : Type 0 where
+-- The roster's file is the text of a complete roster, and the other file one of trades. The verdicts are theirs, each on
+-- the roster that those before it left; and this roster they leave at last: it is complete and has these scores.
+pub record AreTraded (files : Files) (verdicts : List TradeVerdict) (scores : List ℕ) (problem : Problem)
+    (last : List (List ℕ)) : Type 0 where
   pub first : List (List ℕ)
   pub first_file : file files (name_of RosterFile) ≡ Some (roster_text problem first)
   pub first_complete : IsComplete problem first
@@ -36,7 +37,8 @@ pub record AreTraded (files : Files) (verdicts : List TradeVerdict) (scores : Li
   pub scores_are : scores ≡ scores_of problem last
 
 -- the roster's file is now the text of that roster, and each other file is as before
-pub record DeskIsWritten (old new : Files) (verdicts : List TradeVerdict) (scores : List ℕ) (problem : Problem) : Type 0 where
+pub record DeskIsWritten (old new : Files) (verdicts : List TradeVerdict) (scores : List ℕ)
+    (problem : Problem) : Type 0 where
   pub last : List (List ℕ)
   pub traded : AreTraded old verdicts scores problem last
   pub roster_file : file new (name_of RosterFile) ≡ Some (roster_text problem last)
