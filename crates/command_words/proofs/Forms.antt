@@ -40,6 +40,18 @@ pub show_form : (name : Text) → IsPlain name → Reads (codes "show" ∷ name 
 unfolding clap_on_literals
 show_form name p = record { taken = simp (p.trail, p.flag) refl; found = simp (p.trail, p.flag) refl }
 
+pub migrate_form : Reads (codes "migrate" ∷ []) no_texts
+unfolding clap_on_literals
+migrate_form = record { taken = refl; found = refl }
+
+pub trade_form : Reads (codes "trade" ∷ []) no_texts
+unfolding clap_on_literals
+trade_form = record { taken = refl; found = refl }
+
+pub calendar_form : (name : Text) → IsPlain name → Reads (codes "calendar" ∷ name ∷ []) (record no_texts { member = Some name })
+unfolding clap_on_literals
+calendar_form name p = record { taken = simp (p.trail, p.flag) refl; found = simp (p.trail, p.flag) refl }
+
 abbrev pub sized : Text → Text → Text → Option Text → Texts
 sized a b c option = record { nodes = option; member = None; number = Some a; members = Some b; pairings = Some c }
 

@@ -15,13 +15,13 @@ use Rattle.field_text.specs.Form.{fault_from}
 use Rattle.field_text.specs.declared.field_fault.FieldFault.{FieldFault}
 use Rattle.field_text.proofs.Numbers.{number-other}
 use Rattle.command_words.specs.Numbers.{within, number_in, if_read, long_in, long_field, nodes_in, sizes_in}
-use Rattle.command_words.specs.Words.{Parts, is_argument, is_joined, apart, behind, option_out, check_in, award_in, show_in, make_in, trial_in, command_in}
+use Rattle.command_words.specs.Words.{Parts, is_argument, is_joined, apart, behind, option_out, alone_in, name_in, award_in, show_in, make_in, trial_in, calendar_in, command_in}
 use Rattle.command_words.specs.Spelling.{Stands, Spells}
 use Rattle.command_words.specs.Spelling.Stands.{alone, two_words, one_word}
-use Rattle.command_words.specs.Spelling.Spells.{check, award, show, make, trial}
+use Rattle.command_words.specs.Spelling.Spells.{check, award, show, make, trial, migrate, trade, calendar}
 use Rattle.command_words.specs.declared.command.Sizes.{Sizes}
 use Rattle.command_words.specs.declared.command.Command.{Command}
-use Rattle.command_words.specs.declared.command.Command.TheVariants.{Check, Award, Show, Make, Trial}
+use Rattle.command_words.specs.declared.command.Command.TheVariants.{Check, Award, Show, Make, Trial, Migrate, Trade, Calendar}
 
 -- ---- what a read number tells of its word
 
@@ -154,15 +154,19 @@ spelt_read _ _ (trial rest a b c option sizes nodes stands written allowed) =
     let plain = sizes_plain a b c sizes written in
     ap (λ (p : Parts). trial_in p.arguments p.nodes) (stands_out (a ∷ b ∷ c ∷ []) option rest (plain.first, (plain.second, (plain.third, tt))) stands)
     ∙ rw (written, allowed) refl
+spelt_read _ _ migrate = refl
+spelt_read _ _ trade = refl
+spelt_read _ _ (calendar name plain) = rw plain refl
 
 -- ---- a command that is read is spelt
 
 some_is : (a b : Command) → Some a ≡ Some b → a ≡ b
 some_is a b h = cc
 
-pub check_spelt : (rest : List (List ℕ)) (command : Command) → check_in rest ≡ Some command → Spells (codes "check" ∷ rest) command
-check_spelt [] command h = subst (Spells (codes "check" ∷ [])) (some_is Check command h) check
-check_spelt (w ∷ ws) command h = absurd cc
+pub alone_spelt : (word : List ℕ) (named : Command) → Spells (word ∷ []) named → (rest : List (List ℕ)) (command : Command) → alone_in named rest ≡ Some command
+    → Spells (word ∷ rest) command
+alone_spelt word named spelt [] command h = subst (Spells (word ∷ [])) (some_is named command h) spelt
+alone_spelt word named spelt (w ∷ ws) command h = absurd cc
 
 award_spelt : (arguments : List (List ℕ)) (option : Option (List ℕ)) (rest : List (List ℕ)) (command : Command) → Stands arguments option rest
     → award_in arguments option ≡ Some command → Spells (codes "award" ∷ rest) command
@@ -171,14 +175,30 @@ award_spelt [] option rest command s h =
     subst (Spells (codes "award" ∷ rest)) m.2 (award rest option m.0 s m.1)
 award_spelt (w ∷ ws) option rest command s h = absurd cc
 
-pub show_spelt : (rest : List (List ℕ)) (command : Command) → show_in rest ≡ Some command → Spells (codes "show" ∷ rest) command
-show_spelt [] command h = absurd cc
-show_spelt (name ∷ []) command h = by (is_argument name) refl h
+some_word : (a b : List ℕ) → Some a ≡ Some b → a ≡ b
+some_word a b h = cc
+
+-- the one word behind the first is a name
+pub name_alone : (rest : List (List ℕ)) (name : List ℕ) → name_in rest ≡ Some name → (rest ≡ name ∷ []) × (is_argument name ≡ true)
+name_alone [] name h = absurd cc
+name_alone (text ∷ []) name h = by (is_argument text) refl h
   where
-    by : (t : Bool) → is_argument name ≡ t → cond t (Some (Show name)) None ≡ Some command → Spells (codes "show" ∷ name ∷ []) command
-    by true e h = subst (Spells (codes "show" ∷ name ∷ [])) (some_is (Show name) command h) (show name e)
+    by : (t : Bool) → is_argument text ≡ t → cond t (Some text) None ≡ Some name → (text ∷ [] ≡ name ∷ []) × (is_argument name ≡ true)
+    by true e h = let same = some_word text name h in (ap (λ (x : List ℕ). x ∷ []) same, ap is_argument (sym same) ∙ e)
     by false e h = absurd cc
-show_spelt (name ∷ (w ∷ ws)) command h = absurd cc
+name_alone (text ∷ (w ∷ ws)) name h = absurd cc
+
+pub show_spelt : (rest : List (List ℕ)) (command : Command) → show_in rest ≡ Some command → Spells (codes "show" ∷ rest) command
+show_spelt rest command h =
+    let m = mapped (λ (n : List ℕ). Show n) (name_in rest) command h in
+    let p = name_alone rest m.0 m.1 in
+    subst (Spells (codes "show" ∷ rest)) m.2 (subst (λ (w : List (List ℕ)). Spells (codes "show" ∷ w) (Show m.0)) (sym p.0) (show m.0 p.1))
+
+pub calendar_spelt : (rest : List (List ℕ)) (command : Command) → calendar_in rest ≡ Some command → Spells (codes "calendar" ∷ rest) command
+calendar_spelt rest command h =
+    let m = mapped (λ (n : List ℕ). Calendar n) (name_in rest) command h in
+    let p = name_alone rest m.0 m.1 in
+    subst (Spells (codes "calendar" ∷ rest)) m.2 (subst (λ (w : List (List ℕ)). Spells (codes "calendar" ∷ w) (Calendar m.0)) (sym p.0) (calendar m.0 p.1))
 
 make_spelt : (rest : List (List ℕ)) (command : Command) → make_in rest ≡ Some command → Spells (codes "make" ∷ rest) command
 make_spelt [] command h = absurd cc
@@ -206,33 +226,41 @@ is_word word text h = sym ((bytes_eq-Decides word text).0 h)
 renamed : (text word : List ℕ) (rest : List (List ℕ)) (command : Command) → bytes_eq word text ≡ true → Spells (text ∷ rest) command → Spells (word ∷ rest) command
 renamed text word rest command e s = subst (λ (w : List ℕ). Spells (w ∷ rest) command) (is_word word text e) s
 
--- by the first word: each of the five readings has its spelling
-pub by_word : (word : List ℕ) (rest : List (List ℕ)) (command : Command) (c a s m t : Option Command)
+-- by the first word: each of the readings has its spelling
+pub by_word : (word : List ℕ) (rest : List (List ℕ)) (command : Command) (c a s m t g d k : Option Command)
     → (c ≡ Some command → Spells (codes "check" ∷ rest) command) → (a ≡ Some command → Spells (codes "award" ∷ rest) command)
     → (s ≡ Some command → Spells (codes "show" ∷ rest) command) → (m ≡ Some command → Spells (codes "make" ∷ rest) command)
-    → (t ≡ Some command → Spells (codes "trial" ∷ rest) command)
+    → (t ≡ Some command → Spells (codes "trial" ∷ rest) command) → (g ≡ Some command → Spells (codes "migrate" ∷ rest) command)
+    → (d ≡ Some command → Spells (codes "trade" ∷ rest) command) → (k ≡ Some command → Spells (codes "calendar" ∷ rest) command)
     → (if bytes_eq word (codes "check") then c else (if bytes_eq word (codes "award") then a
     else (if bytes_eq word (codes "show") then s else (if bytes_eq word (codes "make") then m
-    else (if bytes_eq word (codes "trial") then t else None))))) ≡ Some command
+    else (if bytes_eq word (codes "trial") then t else (if bytes_eq word (codes "migrate") then g
+    else (if bytes_eq word (codes "trade") then d else (if bytes_eq word (codes "calendar") then k else None)))))))) ≡ Some command
     → Spells (word ∷ rest) command
-by_word word rest command c a s m t fc fa fs fm ft =
-    go (bytes_eq word (codes "check")) (bytes_eq word (codes "award")) (bytes_eq word (codes "show")) (bytes_eq word (codes "make")) (bytes_eq word (codes "trial")) refl refl refl refl refl
+by_word word rest command c a s m t g d k fc fa fs fm ft fg fd fk =
+    go (bytes_eq word (codes "check")) (bytes_eq word (codes "award")) (bytes_eq word (codes "show")) (bytes_eq word (codes "make")) (bytes_eq word (codes "trial"))
+    (bytes_eq word (codes "migrate")) (bytes_eq word (codes "trade")) (bytes_eq word (codes "calendar")) refl refl refl refl refl refl refl refl
   where
-    go : (p q r u v : Bool) → bytes_eq word (codes "check") ≡ p → bytes_eq word (codes "award") ≡ q → bytes_eq word (codes "show") ≡ r
-        → bytes_eq word (codes "make") ≡ u → bytes_eq word (codes "trial") ≡ v
-        → cond p c (cond q a (cond r s (cond u m (cond v t None)))) ≡ Some command → Spells (word ∷ rest) command
-    go true q r u v ep eq er eu ev h = renamed (codes "check") word rest command ep (fc h)
-    go false true r u v ep eq er eu ev h = renamed (codes "award") word rest command eq (fa h)
-    go false false true u v ep eq er eu ev h = renamed (codes "show") word rest command er (fs h)
-    go false false false true v ep eq er eu ev h = renamed (codes "make") word rest command eu (fm h)
-    go false false false false true ep eq er eu ev h = renamed (codes "trial") word rest command ev (ft h)
-    go false false false false false ep eq er eu ev h = absurd cc
+    go : (p q r u v x y z : Bool) → bytes_eq word (codes "check") ≡ p → bytes_eq word (codes "award") ≡ q → bytes_eq word (codes "show") ≡ r
+        → bytes_eq word (codes "make") ≡ u → bytes_eq word (codes "trial") ≡ v → bytes_eq word (codes "migrate") ≡ x → bytes_eq word (codes "trade") ≡ y
+        → bytes_eq word (codes "calendar") ≡ z
+        → cond p c (cond q a (cond r s (cond u m (cond v t (cond x g (cond y d (cond z k None))))))) ≡ Some command → Spells (word ∷ rest) command
+    go true q r u v x y z ep eq er eu ev ex ey ez h = renamed (codes "check") word rest command ep (fc h)
+    go false true r u v x y z ep eq er eu ev ex ey ez h = renamed (codes "award") word rest command eq (fa h)
+    go false false true u v x y z ep eq er eu ev ex ey ez h = renamed (codes "show") word rest command er (fs h)
+    go false false false true v x y z ep eq er eu ev ex ey ez h = renamed (codes "make") word rest command eu (fm h)
+    go false false false false true x y z ep eq er eu ev ex ey ez h = renamed (codes "trial") word rest command ev (ft h)
+    go false false false false false true y z ep eq er eu ev ex ey ez h = renamed (codes "migrate") word rest command ex (fg h)
+    go false false false false false false true z ep eq er eu ev ex ey ez h = renamed (codes "trade") word rest command ey (fd h)
+    go false false false false false false false true ep eq er eu ev ex ey ez h = renamed (codes "calendar") word rest command ez (fk h)
+    go false false false false false false false false ep eq er eu ev ex ey ez h = absurd cc
 
 pub read_spelt : (words : List (List ℕ)) (command : Command) → command_in words ≡ Some command → Spells words command
 read_spelt [] command h = absurd cc
 read_spelt (word ∷ rest) command h =
-    by_word word rest command (check_in rest) (award_in (option_out rest).arguments (option_out rest).nodes) (show_in rest) (make_in rest)
-    (trial_in (option_out rest).arguments (option_out rest).nodes)
-    (check_spelt rest command) (award_spelt (option_out rest).arguments (option_out rest).nodes rest command (out_stands rest))
+    by_word word rest command (alone_in Check rest) (award_in (option_out rest).arguments (option_out rest).nodes) (show_in rest) (make_in rest)
+    (trial_in (option_out rest).arguments (option_out rest).nodes) (alone_in Migrate rest) (alone_in Trade rest) (calendar_in rest)
+    (alone_spelt (codes "check") Check check rest command) (award_spelt (option_out rest).arguments (option_out rest).nodes rest command (out_stands rest))
     (show_spelt rest command) (make_spelt rest command)
-    (trial_spelt (option_out rest).arguments (option_out rest).nodes rest command (out_stands rest)) h
+    (trial_spelt (option_out rest).arguments (option_out rest).nodes rest command (out_stands rest))
+    (alone_spelt (codes "migrate") Migrate migrate rest command) (alone_spelt (codes "trade") Trade trade rest command) (calendar_spelt rest command) h

@@ -8,15 +8,15 @@ use Rattle.std.proofs.lemmas.Slice.Eq.{bytes_eq-Decides}
 use Rattle.std.specs.Str.{bytes_eq}
 use Rattle.clap.specs.Walk.{Text}
 use Rattle.command_words.specs.Numbers.{nodes_in, sizes_in}
-use Rattle.command_words.specs.Words.{is_argument, check_in}
+use Rattle.command_words.specs.Words.{is_argument, alone_in}
 use Rattle.command_words.specs.Spelling.{Stands, Spells}
 use Rattle.command_words.specs.Spelling.Stands.{alone, two_words, one_word}
-use Rattle.command_words.specs.Spelling.Spells.{award, show, make, trial}
+use Rattle.command_words.specs.Spelling.Spells.{check, award, show, make, trial, migrate, trade, calendar}
 use Rattle.command_words.specs.Reading.{Texts, joins, same_words, begins_apart, begins, heads, has_option, stands, award_read, name_read, sizes_read, make_read, trial_read, named_read}
-use Rattle.command_words.proofs.Laws.{by_word, check_spelt, mapped, moved}
+use Rattle.command_words.proofs.Laws.{by_word, alone_spelt, mapped, moved}
 use Rattle.command_words.specs.declared.command.Sizes.{Sizes}
 use Rattle.command_words.specs.declared.command.Command.{Command}
-use Rattle.command_words.specs.declared.command.Command.TheVariants.{Award, Show, Make, Trial}
+use Rattle.command_words.specs.declared.command.Command.TheVariants.{Check, Award, Show, Make, Trial, Migrate, Trade, Calendar}
 
 -- ---- words that pass the test stand so
 
@@ -136,24 +136,38 @@ award_given words option command h = by (stands words [] option) refl h
 some_text : (a b : Text) → Some a ≡ Some b → a ≡ b
 some_text a b h = cc
 
-name_given : (words : List Text) (text name : Text) → (if is_argument text && same_words words (text ∷ []) then Some text else None) ≡ Some name
-    → Spells (codes "show" ∷ words) (Show name)
-name_given words text name h = by (is_argument text && same_words words (text ∷ [])) refl h
+-- the words are this name
+abbrev IsNameOf : List Text → Text → Type 0
+IsNameOf words name = (words ≡ name ∷ []) × (is_argument name ≡ true)
+
+name_tested : (words : List Text) (text name : Text) → (if is_argument text && same_words words (text ∷ []) then Some text else None) ≡ Some name
+    → IsNameOf words name
+name_tested words text name h = by (is_argument text && same_words words (text ∷ [])) refl h
   where
-    by : (t : Bool) → (is_argument text && same_words words (text ∷ [])) ≡ t → cond t (Some text) None ≡ Some name → Spells (codes "show" ∷ words) (Show name)
+    by : (t : Bool) → (is_argument text && same_words words (text ∷ [])) ≡ t → cond t (Some text) None ≡ Some name → IsNameOf words name
     by true e h =
         let p = and_parts (is_argument text) (same_words words (text ∷ [])) e in
-        subst (λ (n : Text). Spells (codes "show" ∷ words) (Show n)) (some_text text name h)
-        (subst (λ (w : List Text). Spells (codes "show" ∷ w) (Show text)) (sym (same_eq words (text ∷ []) p.1)) (show text p.0))
+        subst (IsNameOf words) (some_text text name h) (same_eq words (text ∷ []) p.1, p.0)
     by false e h = absurd cc
+
+name_given : (words : List Text) (member : Option Text) (name : Text) → name_read words member ≡ Some name → IsNameOf words name
+name_given words member name h =
+    option_and_then_some (λ (text : Text). if is_argument text && same_words words (text ∷ []) then Some text else None) member name h
+    (λ text e k. name_tested words text name k)
 
 show_given : (words : List Text) (member : Option Text) (command : Command) → option_map (λ (n : Text). Show n) (name_read words member) ≡ Some command
     → Spells (codes "show" ∷ words) command
 show_given words member command h =
     let m = mapped (λ (n : Text). Show n) (name_read words member) command h in
-    subst (Spells (codes "show" ∷ words)) m.2
-    (option_and_then_some (λ (text : Text). if is_argument text && same_words words (text ∷ []) then Some text else None) member m.0 m.1
-    (λ text e k. name_given words text m.0 k))
+    let p = name_given words member m.0 m.1 in
+    subst (Spells (codes "show" ∷ words)) m.2 (subst (λ (w : List Text). Spells (codes "show" ∷ w) (Show m.0)) (sym p.0) (show m.0 p.1))
+
+calendar_given : (words : List Text) (member : Option Text) (command : Command) → option_map (λ (n : Text). Calendar n) (name_read words member) ≡ Some command
+    → Spells (codes "calendar" ∷ words) command
+calendar_given words member command h =
+    let m = mapped (λ (n : Text). Calendar n) (name_read words member) command h in
+    let p = name_given words member m.0 m.1 in
+    subst (Spells (codes "calendar" ∷ words)) m.2 (subst (λ (w : List Text). Spells (codes "calendar" ∷ w) (Calendar m.0)) (sym p.0) (calendar m.0 p.1))
 
 record SizesGiven (words : List Text) (option : Option Text) (sizes : Sizes) : Type 0 where
   a : Text
@@ -201,7 +215,10 @@ trial_given words option number members pairings command h =
 
 pub given_spelt : (word : Text) (rest : List Text) (t : Texts) (command : Command) → named_read word rest t ≡ Some command → Spells (word ∷ rest) command
 given_spelt word rest t command h =
-    by_word word rest command (check_in rest) (award_read rest t.nodes) (option_map (λ (n : Text). Show n) (name_read rest t.member))
+    by_word word rest command (alone_in Check rest) (award_read rest t.nodes) (option_map (λ (n : Text). Show n) (name_read rest t.member))
     (make_read rest t.number t.members t.pairings) (trial_read rest t.nodes t.number t.members t.pairings)
-    (check_spelt rest command) (award_given rest t.nodes command) (show_given rest t.member command)
-    (make_given rest t.number t.members t.pairings command) (trial_given rest t.nodes t.number t.members t.pairings command) h
+    (alone_in Migrate rest) (alone_in Trade rest) (option_map (λ (n : Text). Calendar n) (name_read rest t.member))
+    (alone_spelt (codes "check") Check check rest command) (award_given rest t.nodes command) (show_given rest t.member command)
+    (make_given rest t.number t.members t.pairings command) (trial_given rest t.nodes t.number t.members t.pairings command)
+    (alone_spelt (codes "migrate") Migrate migrate rest command) (alone_spelt (codes "trade") Trade trade rest command)
+    (calendar_given rest t.member command) h

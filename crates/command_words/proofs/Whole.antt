@@ -18,7 +18,7 @@ use Rattle.command_words.specs.Numbers.{within, number_in, long_in, nodes_in, si
 use Rattle.command_words.specs.Words.{is_argument, command_in, HasLimits}
 use Rattle.command_words.specs.Spelling.{Stands, Spells, IsSpelt}
 use Rattle.command_words.specs.Spelling.Stands.{alone, two_words, one_word}
-use Rattle.command_words.specs.Spelling.Spells.{check, award, show, make, trial}
+use Rattle.command_words.specs.Spelling.Spells.{check, award, show, make, trial, migrate, trade, calendar}
 use Rattle.command_words.specs.Reading.{Texts, commands, texts_of, texts_in, named_read, sizes_read}
 use Rattle.command_words.proofs.Laws.{spelt_read, read_spelt, mapped, number_argument, sizes_plain}
 use Rattle.command_words.proofs.Standing.{given_spelt, stands_is, bytes_same}
@@ -167,6 +167,13 @@ understood _ _ (trial rest a b c option sizes nodes s h k) = let p = sizes_plain
   means = ap (option_and_then (λ (z : Sizes). option_map (λ (n : ℕ). Trial z n) (nodes_in option))) (sizes_stand rest option a b c s ∙ h)
       ∙ ap (option_map (λ (n : ℕ). Trial sizes n)) k;
 }
+understood _ _ migrate = record { texts = no_texts; reads = forms.migrate_form; means = refl }
+understood _ _ trade = record { texts = no_texts; reads = forms.trade_form; means = refl }
+understood _ _ (calendar name plain) = record {
+  texts = record no_texts { member = Some name };
+  reads = forms.calendar_form name (plain_word name plain);
+  means = rw (plain, bytes_same name) refl;
+}
 
 -- ---- the three ends of the reader
 
@@ -286,6 +293,9 @@ limits_of _ _ (award rest option nodes s h) = nodes_limits option nodes h
 limits_of _ _ (show name plain) = tt
 limits_of _ _ (make a b c sizes h) = sizes_limits a b c sizes h
 limits_of _ _ (trial rest a b c option sizes nodes s h k) = (sizes_limits a b c sizes h, nodes_limits option nodes k)
+limits_of _ _ migrate = tt
+limits_of _ _ trade = tt
+limits_of _ _ (calendar name plain) = tt
 
 pub read_has_limits : (words : List Text) (read : Option Command) → read ≡ command_in words → IfSome read HasLimits
 read_has_limits words None e = tt

@@ -3,10 +3,10 @@ use Rattle.std.specs.Prelude.{Bool, true, false, ◌&&◌, ◌||◌, List, [], �
 use Rattle.std.specs.Str.{bytes_eq}
 use Rattle.clap.specs.Words.{App, Row, Rule, Text, first_of, new_app, new_rule, with_rule, with_subcommand, subcommand_of}
 use Rattle.command_words.specs.Numbers.{nodes_in, sizes_in}
-use Rattle.command_words.specs.Words.{is_argument, check_in}
+use Rattle.command_words.specs.Words.{is_argument, alone_in}
 use Rattle.command_words.specs.declared.command.Sizes.{Sizes}
 use Rattle.command_words.specs.declared.command.Command.{Command}
-use Rattle.command_words.specs.declared.command.Command.TheVariants.{Award, Show, Make, Trial}
+use Rattle.command_words.specs.declared.command.Command.TheVariants.{Check, Award, Show, Make, Trial, Migrate, Trade, Calendar}
 
 -- ---- what clap is told
 
@@ -20,16 +20,22 @@ abbrev pub sized_app : Text → App
 sized_app name = with_rule (with_rule (with_rule (new_app name) (needed_rule (codes "number")))
     (needed_rule (codes "members"))) (needed_rule (codes "pairings"))
 
--- the commands for a month that is there, and all of them
+-- the commands for a month that is there, these and those for a made one, and all of them
 abbrev pub month_commands : App
 month_commands = with_subcommand (with_subcommand (with_subcommand (new_app (codes "pbs"))
     (new_app (codes "check")).top)
     (with_rule (new_app (codes "award")) nodes_rule).top)
     (with_rule (new_app (codes "show")) (needed_rule (codes "member"))).top
 
-abbrev pub commands : App
-commands = with_subcommand (with_subcommand month_commands (sized_app (codes "make")).top)
+abbrev pub made_commands : App
+made_commands = with_subcommand (with_subcommand month_commands (sized_app (codes "make")).top)
     (with_rule (sized_app (codes "trial")) nodes_rule).top
+
+abbrev pub commands : App
+commands = with_subcommand (with_subcommand (with_subcommand made_commands
+    (new_app (codes "migrate")).top)
+    (new_app (codes "trade")).top)
+    (with_rule (new_app (codes "calendar")) (needed_rule (codes "member"))).top
 
 -- ---- the test of words against what was read
 
@@ -106,12 +112,15 @@ texts_in rows = record {
 
 abbrev pub named_read : Text → List Text → Texts → Option Command
 named_read word rest t =
-    if bytes_eq word (codes "check") then check_in rest
+    if bytes_eq word (codes "check") then alone_in Check rest
     else (if bytes_eq word (codes "award") then award_read rest t.nodes
     else (if bytes_eq word (codes "show") then option_map (λ n. Show n) (name_read rest t.member)
     else (if bytes_eq word (codes "make") then make_read rest t.number t.members t.pairings
     else (if bytes_eq word (codes "trial") then trial_read rest t.nodes t.number t.members t.pairings
-    else None))))
+    else (if bytes_eq word (codes "migrate") then alone_in Migrate rest
+    else (if bytes_eq word (codes "trade") then alone_in Trade rest
+    else (if bytes_eq word (codes "calendar") then option_map (λ n. Calendar n) (name_read rest t.member)
+    else None)))))))
 
 -- the texts that clap reads of the words behind the program's name, where it goes to a command
 abbrev pub texts_of : List Text → Option Texts

@@ -4,7 +4,7 @@ use Rattle.command_words.specs.Numbers.{nodes_in, sizes_in}
 use Rattle.command_words.specs.Words.{is_argument}
 use Rattle.command_words.specs.declared.command.Sizes.{Sizes}
 use Rattle.command_words.specs.declared.command.Command.{Command}
-use Rattle.command_words.specs.declared.command.Command.TheVariants.{Check, Award, Show, Make, Trial}
+use Rattle.command_words.specs.declared.command.Command.TheVariants.{Check, Award, Show, Make, Trial, Migrate, Trade, Calendar}
 
 -- the words are these arguments in order, with at most one option before, between or after them
 pub data Stands (arguments : List (List ℕ)) (nodes : Option (List ℕ)) (words : List (List ℕ)) : Type 0 where
@@ -26,6 +26,9 @@ pub data Spells : List (List ℕ) → Command → Type 0 where
       (sizes : Sizes) (nodes : ℕ) → Stands (number ∷ members ∷ pairings ∷ []) option rest
       → sizes_in number members pairings ≡ Some sizes → nodes_in option ≡ Some nodes
       → Spells (codes "trial" ∷ rest) (Trial sizes nodes)
+  migrate : Spells (codes "migrate" ∷ []) Migrate
+  trade : Spells (codes "trade" ∷ []) Trade
+  calendar : (name : List ℕ) → is_argument name ≡ true → Spells (codes "calendar" ∷ name ∷ []) (Calendar name)
 
 -- what is read is a command exactly where the words spell it
 abbrev pub IsSpelt : List (List ℕ) → Option Command → Type 0

@@ -6,7 +6,7 @@ use Rattle.std.specs.Str.{bytes_eq}
 use Rattle.command_words.specs.Numbers.{nodes_in, sizes_in, AreNodes, AreSizes}
 use Rattle.command_words.specs.declared.command.Sizes.{Sizes}
 use Rattle.command_words.specs.declared.command.Command.{Command}
-use Rattle.command_words.specs.declared.command.Command.TheVariants.{Check, Award, Show, Make, Trial}
+use Rattle.command_words.specs.declared.command.Command.TheVariants.{Check, Award, Show, Make, Trial, Migrate, Trade, Calendar}
 
 -- a word that may stand for a name: it is not empty, and no dash begins it
 abbrev pub is_argument : List ℕ → Bool
@@ -36,18 +36,26 @@ option_out (word ∷ rest) =
     if is_joined word then record { arguments = rest; nodes = Some (drop 8 word) }
     else (if bytes_eq word (codes "--nodes") then apart word rest else behind word (option_out rest))
 
-abbrev pub check_in : List (List ℕ) → Option Command
-check_in [] = Some Check
-check_in (word ∷ rest) = None
+-- a command that no words stand behind
+abbrev pub alone_in : Command → List (List ℕ) → Option Command
+alone_in command [] = Some command
+alone_in command (word ∷ rest) = None
 
 abbrev pub award_in : List (List ℕ) → Option (List ℕ) → Option Command
 award_in [] nodes = option_map (λ n. Award n) (nodes_in nodes)
 award_in (word ∷ rest) nodes = None
 
+-- a name, and nothing behind it
+abbrev pub name_in : List (List ℕ) → Option (List ℕ)
+name_in [] = None
+name_in (name ∷ []) = if is_argument name then Some name else None
+name_in (name ∷ (word ∷ rest)) = None
+
 abbrev pub show_in : List (List ℕ) → Option Command
-show_in [] = None
-show_in (name ∷ []) = if is_argument name then Some (Show name) else None
-show_in (name ∷ (word ∷ rest)) = None
+show_in arguments = option_map (λ name. Show name) (name_in arguments)
+
+abbrev pub calendar_in : List (List ℕ) → Option Command
+calendar_in arguments = option_map (λ name. Calendar name) (name_in arguments)
 
 abbrev pub sizes_of : List (List ℕ) → Option Sizes
 sizes_of [] = None
@@ -65,12 +73,15 @@ trial_in arguments nodes =
 
 abbrev pub named : List ℕ → List (List ℕ) → Option Command
 named word rest =
-    if bytes_eq word (codes "check") then check_in rest
+    if bytes_eq word (codes "check") then alone_in Check rest
     else (if bytes_eq word (codes "award") then award_in (option_out rest).arguments (option_out rest).nodes
     else (if bytes_eq word (codes "show") then show_in rest
     else (if bytes_eq word (codes "make") then make_in rest
     else (if bytes_eq word (codes "trial") then trial_in (option_out rest).arguments (option_out rest).nodes
-    else None))))
+    else (if bytes_eq word (codes "migrate") then alone_in Migrate rest
+    else (if bytes_eq word (codes "trade") then alone_in Trade rest
+    else (if bytes_eq word (codes "calendar") then calendar_in rest
+    else None)))))))
 
 -- the command that these words are, if they are one
 abbrev pub command_in : List (List ℕ) → Option Command
@@ -84,3 +95,6 @@ HasLimits (Award nodes) = AreNodes nodes
 HasLimits (Show name) = Unit {0}
 HasLimits (Make sizes) = AreSizes sizes
 HasLimits (Trial sizes nodes) = AreSizes sizes × AreNodes nodes
+HasLimits Migrate = Unit {0}
+HasLimits Trade = Unit {0}
+HasLimits (Calendar name) = Unit {0}

@@ -1,8 +1,8 @@
 //! The commands.
 ghost use Rattle.std.specs.Prelude.{◌≡◌, ◌∷◌, ℕ, List as Sequence, codes, map, option_map, string_bytes, IfOk, IfSome};
 ghost use Rattle.command_words.specs.Numbers.{nodes_in, sizes_in};
-ghost use Rattle.command_words.specs.declared.command.Command.TheVariants.{Show};
-ghost use Rattle.command_words.specs.Words.{check_in, command_in, HasLimits};
+ghost use Rattle.command_words.specs.declared.command.Command.TheVariants.{Show, Calendar};
+ghost use Rattle.command_words.specs.Words.{alone_in, command_in, HasLimits};
 ghost use Rattle.command_words.specs.Spelling.{IsSpelt};
 ghost use Rattle.command_words.specs.Reading.{award_read, name_read, sizes_read, make_read, trial_read, named_read};
 ghost use Rattle.command_words.specs.Found.{texts_found, words_of, option_word};
@@ -41,6 +41,12 @@ pub enum Command {
     Make(Sizes),
     /// Award a month of these sizes, with so many nodes at most, and write nothing.
     Trial(Sizes, u32),
+    /// Write the certificate in the folder anew, in the version of today.
+    Migrate,
+    /// Judge the trades in the folder, and write the roster that they leave.
+    Trade,
+    /// Write the calendar of the member with this name, in bytes.
+    Calendar(List<u8>),
 }
 
 /// The number of nodes that an option allows.
@@ -67,12 +73,12 @@ fn sizes_written(number: &str, members: &str, pairings: &str) -> Option<Sizes>
     })
 }
 
-/// The command `check` with these words behind it.
-fn check(words: &[&str]) -> Option<Command>
-    ensures value { result ≡ check_in (words_of words.now) }
+/// The command, where no words stand behind it.
+fn alone(command: Command, words: &[&str]) -> Option<Command>
+    ensures value { result ≡ alone_in command (words_of words.now) }
 {
     if words.is_empty() {
-        Some(Command::Check)
+        Some(command)
     } else {
         None
     }
@@ -90,7 +96,7 @@ fn award(words: &[&str], found: &ArgMatches<'_>) -> Option<Command>
     Some(Command::Award(nodes))
 }
 
-/// The name that the words behind `show` are.
+/// The name that these words are.
 fn name<'w>(words: &[&str], found: &ArgMatches<'w>) -> Option<&'w str>
     ensures value { option_map (λ n. n.now) result
         ≡ name_read (words_of words.now) (texts_found found.now).member }
@@ -163,6 +169,22 @@ fn show(alloc: Global, words: &[&str], found: &ArgMatches<'_>) -> Result<Option<
     Ok(Some(Command::Show(bytes)))
 }
 
+/// The command `calendar` with these words behind it.
+fn calendar(
+    alloc: Global,
+    words: &[&str],
+    found: &ArgMatches<'_>,
+) -> Result<Option<Command>, Memory>
+    ensures value { IfOk result (λ read. read ≡ option_map (λ n. Calendar n)
+        (name_read (words_of words.now) (texts_found found.now).member)) }
+{
+    let Some(name) = name(words, found) else {
+        return Ok(None);
+    };
+    let bytes = bytes_of(alloc, name)?;
+    Ok(Some(Command::Calendar(bytes)))
+}
+
 /// The command of a first word with what was read behind it.
 fn named(
     alloc: Global,
@@ -174,7 +196,7 @@ fn named(
         ≡ named_read word.now (words_of words.now) (texts_found found.now)) }
 {
     if word == "check" {
-        return Ok(check(words));
+        return Ok(alone(Command::Check, words));
     }
     if word == "award" {
         return Ok(award(words, found));
@@ -187,6 +209,15 @@ fn named(
     }
     if word == "trial" {
         return Ok(trial(words, found));
+    }
+    if word == "migrate" {
+        return Ok(alone(Command::Migrate, words));
+    }
+    if word == "trade" {
+        return Ok(alone(Command::Trade, words));
+    }
+    if word == "calendar" {
+        return calendar(alloc, words, found);
     }
     Ok(None)
 }

@@ -2,7 +2,7 @@
 ghost use Rattle.std.specs.Prelude.{◌≡◌, true, false, None, IfOk, IfSome, IsOkAnd, codes};
 ghost use Rattle.clap.specs.Words.{AddsSubcommand, app_of, new_app, rule_of, subcommand_rows_of, subcommand_of, takes, with_rule};
 ghost use Rattle.command_words.specs.Found.{words_of};
-ghost use Rattle.command_words.specs.Reading.{nodes_rule, needed_rule, sized_app, month_commands, commands};
+ghost use Rattle.command_words.specs.Reading.{nodes_rule, needed_rule, sized_app, month_commands, made_commands, commands};
 
 use clap::error::ErrorKind;
 use clap::{Arg, ArgMatches, Command as Grammar};
@@ -74,13 +74,23 @@ fn with_month<'w>(alloc: Global) -> Result<Grammar<'w>, AllocError>
     and_command(program, with_one(alloc, "show", needed(alloc, "member")))
 }
 
-/// The commands of the program.
-fn grammar<'w>(alloc: Global) -> Result<Grammar<'w>, AllocError>
-    ensures shape { IfOk result (λ c. app_of c ≡ commands) }
+/// The program with these and with the commands for a month that is made.
+fn with_made<'w>(alloc: Global) -> Result<Grammar<'w>, AllocError>
+    ensures shape { IfOk result (λ c. app_of c ≡ made_commands) }
 {
     let month = with_month(alloc)?;
     let made = and_command(month, with_sizes(alloc, "make"))?;
     and_command(made, trial(alloc))
+}
+
+/// The commands of the program.
+fn grammar<'w>(alloc: Global) -> Result<Grammar<'w>, AllocError>
+    ensures shape { IfOk result (λ c. app_of c ≡ commands) }
+{
+    let made = with_made(alloc)?;
+    let first = made.subcommand(Grammar::new(alloc, "migrate"))?;
+    let second = first.subcommand(Grammar::new(alloc, "trade"))?;
+    and_command(second, with_one(alloc, "calendar", needed(alloc, "member")))
 }
 
 /// What `clap` reads from the words, of which the first is the program's name, or nothing where it

@@ -53,6 +53,18 @@ static NO_COMMANDS: [&[&str]; 30] = [
     &["make", "7", "201", "24"],
 ];
 
+static NO_DESKS: [&[&str]; 9] = [
+    &["migrate", "certificate.txt"],
+    &["migrate", "--nodes", "5"],
+    &["migrate", "--"],
+    &["trade", "trades.txt"],
+    &["trade", "--nodes=5"],
+    &["calendar"],
+    &["calendar", ""],
+    &["calendar", "-x"],
+    &["calendar", "M1", "M2"],
+];
+
 static NO_MONTHS: [&[&str]; 9] = [
     &["make", "7", "8"],
     &["make", "7", "8", "24", "1"],
@@ -76,6 +88,7 @@ fn assert_none(rt: &impl Abort, alloc: Global, table: &[&[&str]]) {
 fn other_words_are_no_command(rt: HostRuntime) {
     assert_none(&rt, rt.alloc(), &NO_COMMANDS);
     assert_none(&rt, rt.alloc(), &NO_MONTHS);
+    assert_none(&rt, rt.alloc(), &NO_DESKS);
 }
 
 #[test]
@@ -99,6 +112,19 @@ fn shows_a_member(rt: HostRuntime) {
         rt.alloc(),
         &["show", "help"],
         Command::Show(List::from_vec(name)),
+    );
+}
+
+#[test]
+fn writes_versions_trades_and_calendars(rt: HostRuntime) {
+    let name = b"M1".to_vec(rt.alloc()).expect(&rt, "memory");
+    assert_read(&rt, rt.alloc(), &["migrate"], Command::Migrate);
+    assert_read(&rt, rt.alloc(), &["trade"], Command::Trade);
+    assert_read(
+        &rt,
+        rt.alloc(),
+        &["calendar", "M1"],
+        Command::Calendar(List::from_vec(name)),
     );
 }
 

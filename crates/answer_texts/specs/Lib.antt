@@ -1,0 +1,12 @@
+pub mod Statuses
+pub mod Lines
+pub mod MonthEnds
+pub mod WriteEnds
+pub mod CheckTexts
+pub mod AwardTexts
+pub mod ShowTexts
+pub mod MakeTexts
+pub mod TrialTexts
+pub mod MigrateTexts
+pub mod TradeTexts
+pub mod CalendarTexts
