@@ -1,23 +1,20 @@
 -- How `trade` ends, from what its stages answer.
-use Rattle.std.proofs.Common.{◌≡◌, ◌≢◌, ℕ, ◌+◌, List, [], ◌∷◌, ◌++◌, take, length, Option, Result, Ok, Err, refl, sym, ap, subst, ◌∙◌, arith, append_assoc}
+use Rattle.std.proofs.Common.{◌≡◌, ◌≢◌, ℕ, ◌+◌, List, [], ◌∷◌, ◌++◌, take, length, Ok, Err, refl, sym, ap, subst, ◌∙◌, arith, append_assoc}
 use Rattle.std.proofs.lemmas.List.{take_all}
 use Rattle.line_legality.specs.declared.shortfall.RosterFault.{RosterFault}
 use Rattle.line_legality.specs.declared.shortfall.RosterFault.TheVariants as shortfall
 use Rattle.line_legality.specs.Shortfalls.{IsFirstShortfall}
 use Rattle.shelf.specs.Files.{Files}
 use Rattle.shelf.specs.Logs.{Entries, holding}
-use Rattle.shelf.specs.declared.tally.Tally.{Tally}
 use Rattle.roster_model.specs.declared.problem.Problem.{Problem}
 use Rattle.roster_model.specs.Rosters.{IsComplete, scores_of}
 use Rattle.month_files.specs.declared.fault.BadInput.{BadInput}
 use Rattle.month_files.specs.declared.fault.BadInput.TheVariants as bad
 use Rattle.month_files.specs.declared.file.File.TheVariants.{Roster, Trades}
-use Rattle.month_files.specs.declared.writing.Unwritten.{Unwritten}
 use Rattle.month_files.specs.FileNames.{name_of}
 use Rattle.month_files.specs.Handing.{FromReads}
 use Rattle.month_files.specs.Months.{Names, Ends}
 use Rattle.month_files.specs.Reading.{AreShort}
-use Rattle.month_files.specs.Writes.{Leaves, IsStop}
 use Rattle.roster_text.specs.declared.fault.RosterTextCode.{RosterTextCode}
 use Rattle.roster_text.specs.declared.fault.RosterTextCode.TheVariants as text
 use Rattle.roster_text.specs.declared.fault.RosterTextFault.{RosterTextFault}
@@ -34,9 +31,8 @@ use Rattle.trade_desk.specs.Reading.{trades_in, no_memory as no_room}
 use Rattle.desk_commands.specs.declared.trade_stop.TradeStop.{TradeStop}
 use Rattle.desk_commands.specs.declared.trade_stop.TradeStop.TheVariants as stop
 use Rattle.desk_commands.specs.declared.trade_stop.Traded.{Traded}
-use Rattle.desk_commands.specs.declared.trade_stop.Untraded.TheVariants as untraded
-use Rattle.desk_commands.specs.Trade.{Offered, offered_in, roster_draft, trading_order, HasRoster, IsReadableRoster, IsTraded, IsDeskEnd, HasTraded, HasUntraded, HasUnwritten, IsBadOffer, IsTrading, IsTradingHanded}
-use Rattle.desk_commands.specs.TradeEnds.{unread_roster, incomplete_roster, unread_trades, TradeCause, trade_written}
+use Rattle.desk_commands.specs.Trade.{Offered, offered_in, roster_draft, trading_order, HasRoster, IsReadableRoster, IsTraded, IsDeskEnd, HasTraded, HasUntraded, IsBadOffer, IsTrading, IsTradingHanded}
+use Rattle.desk_commands.specs.TradeEnds.{unread_roster, incomplete_roster, unread_trades}
 use Rattle.desk_commands.specs.TradeTexts.{offered_texts, AreBrief}
 use Rattle.desk_commands.proofs.Held.{held, inputs_held, then_ok}
 

@@ -18,7 +18,7 @@ use Rattle.month_files.specs.declared.writing.Unwritten.{Unwritten}
 use Rattle.month_files.specs.FileNames.{limit_of}
 use Rattle.month_files.specs.Handing.{FromReads}
 use Rattle.month_files.specs.Months.{Names, HasFault}
-use Rattle.month_files.specs.Reading.{◌>>=◌, Inputs, UnreadIs, view_texts, text_in, texts_in}
+use Rattle.month_files.specs.Reading.{◌>>=◌, Inputs, UnreadIs, text_in, texts_in}
 use Rattle.month_files.specs.Writes.{IsStop}
 use Rattle.roster_text.specs.RosterFaults.{HasFault as HasRosterFault}
 use Rattle.roster_text.specs.RosterText.{roster_text, IsRoster, IsTextOf}
