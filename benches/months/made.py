@@ -1,14 +1,22 @@
 #!/usr/bin/env python3
-"""Prints the eight files of the month that `pbs make` writes, worked out from docs/FORMATS.md and none of the crates.
+"""The month that `pbs make` writes, worked out from docs/FORMATS.md and none of the crates.
 
-    made.py NUMBER MEMBERS PAIRINGS               prints each file under its name
-    made.py NUMBER MEMBERS PAIRINGS FOLDER        writes them into the folder
-    made.py NUMBER MEMBERS PAIRINGS FOLDER same   compares them with those that lie there
+    made.py NUMBER MEMBERS PAIRINGS          prints its eight files, each under its name
+    made.py NUMBER MEMBERS PAIRINGS FOLDER   compares them with those that lie in the folder
+    made.py COUNT                            compares so many months with those that the built program makes
 
-The texts that the test `months_are_made` of engine_tests compares with were printed by it.
+The texts that the test `months_are_made` of engine_tests compares with were printed by it. The variable PROGRAM of the
+environment names another program.
 """
+import os
 import pathlib
+import random
+import subprocess
 import sys
+import tempfile
+
+TOP = pathlib.Path(__file__).resolve().parents[2]
+PROGRAM = os.environ.get("PROGRAM", str(TOP / "crates/roster_cli/out/roster_cli"))
 
 STATIONS = ["ORD", "DEN", "SEA", "BOS"]
 EVENTS = "member,kind,report,parked,release,legs,credit\n"
@@ -120,20 +128,38 @@ def month(number, members, pairings):
     }
 
 
-def main(number, members, pairings, folder=None, same=None):
-    texts = month(int(number), int(members), int(pairings))
-    if folder is None:
-        for name, text in texts.items():
-            print(f"== {name}\n{text}", end="")
-        return 0
-    lie = pathlib.Path(folder)
-    if same is None:
-        for name, text in texts.items():
-            (lie / name).write_bytes(text.encode())
-        return 0
-    differ = [name for name, text in texts.items() if (lie / name).read_bytes() != text.encode()]
-    print(f"{len(differ)} of {len(texts)} files differ", *differ)
+def differing(sizes, folder):
+    """The files of the folder that are not those of the month."""
+    return [name for name, text in month(*sizes).items() if pathlib.Path(folder, name).read_bytes() != text.encode()]
+
+
+def compare(count):
+    """Months of drawn numbers, of few and of many members and pairings."""
+    pick, differ = random.Random(1), 0
+    for _ in range(count):
+        most = pick.choice([(3, 6), (20, 60), (200, 600)])
+        sizes = pick.randrange(2 ** pick.choice([8, 64])), pick.randint(1, most[0]), pick.randint(0, most[1])
+        with tempfile.TemporaryDirectory() as folder:
+            run = subprocess.run([PROGRAM, folder, "make", *map(str, sizes)], capture_output=True, text=True)
+            said = f"made {sizes[1]} members {sizes[2]} pairings\n"
+            if (run.returncode, run.stdout) != (0, said) or differing(sizes, folder):
+                differ += 1
+                print(f"make {sizes}: {run.stdout!r}, {differing(sizes, folder)}")
+    print(f"{count} months compared, {differ} differed")
     return 1 if differ else 0
 
 
-sys.exit(main(*sys.argv[1:]))
+def main(words):
+    if len(words) == 1:
+        return compare(int(words[0]))
+    sizes = [int(word) for word in words[:3]]
+    if len(words) == 3:
+        for name, text in month(*sizes).items():
+            print(f"== {name}\n{text}", end="")
+        return 0
+    differ = differing(sizes, words[3])
+    print(f"{len(differ)} of 8 files differ", *differ)
+    return 1 if differ else 0
+
+
+sys.exit(main(sys.argv[1:]))

@@ -1,0 +1,11 @@
+//! Worked rows of the commands over an award that stands, and of what they are made of.
+#![tactic(auto)]
+
+#[cfg(test)]
+mod judged;
+#[cfg(test)]
+mod june;
+#[cfg(test)]
+mod listed;
+#[cfg(test)]
+mod traded;
