@@ -1,18 +1,17 @@
 -- What a member's calendar comes to as a file.
-use Rattle.std.proofs.Common.{◌≡◌, ℕ, ◌≤◌, List, [], ◌∷◌, true, length, map, None, Some, refl, sym, ap, subst, ◌∙◌, arith, All}
+use Rattle.std.proofs.Common.{◌≡◌, ℕ, ◌≤◌, List, [], ◌∷◌, true, length, None, Some, refl, sym, ap, subst, ◌∙◌, arith, All}
 use Rattle.std.specs.Str.{IsAscii}
 use Rattle.std.proofs.lemmas.List.{length-map}
 use Rattle.duty_calendar.specs.Forms.{is_name}
 use Rattle.shelf.specs.Names.{IsName}
 use Rattle.crew_calendar.specs.declared.types.Calendar.{Calendar}
-use Rattle.crew_calendar.specs.declared.types.CalendarEntry.{CalendarEntry}
 use Rattle.crew_calendar.specs.Moments.{IsMoment}
 use Rattle.crew_calendar.specs.Printing.{book_text}
 use Rattle.crew_calendar.specs.Seen.{Book, seen, entry_seen, IsCalendar, IsEntry}
 use Rattle.crew_calendar.specs.Table.{table}
 use Rattle.roster_model.specs.declared.problem.Problem.{Problem}
 use Rattle.roster_text.specs.RosterText.{IsRoster}
-use Rattle.desk_commands.specs.Calendars.{IsDated, IsFileOf, ics_of}
+use Rattle.desk_commands.specs.Calendars.{IsDated, ics_of}
 use Rattle.desk_commands.specs.declared.calendars.MemberCalendar.{MemberCalendar}
 use Rattle.desk_commands.proofs.CalendarNames.{file_ascii, file_named}
 use Rattle.desk_commands.proofs.CalendarSizes.{table_few}

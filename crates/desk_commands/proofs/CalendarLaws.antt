@@ -1,5 +1,5 @@
 -- How `calendar` ends, from what its stages answer.
-use Rattle.std.proofs.Common.{◌≡◌, ◌≢◌, ℕ, ◌≤◌, List, [], ◌∷◌, ◌++◌, length, Option, Some, None, Result, Ok, Err, refl, sym, ap, subst, ◌∙◌}
+use Rattle.std.proofs.Common.{◌≡◌, ◌≢◌, ℕ, ◌≤◌, List, [], ◌++◌, length, Some, None, Result, Ok, Err, refl, sym, ap, subst, ◌∙◌}
 use Rattle.shelf.specs.Files.{Files}
 use Rattle.shelf.specs.Logs.{Entries, holding}
 use Rattle.shelf.specs.declared.tally.Tally.{Tally}
@@ -24,7 +24,7 @@ use Rattle.desk_commands.specs.declared.calendars.MemberCalendar.{MemberCalendar
 use Rattle.desk_commands.specs.declared.calendar_stop.CalendarStop.{CalendarStop}
 use Rattle.desk_commands.specs.declared.calendar_stop.CalendarStop.TheVariants as stop
 use Rattle.desk_commands.specs.declared.calendar_stop.Undated.TheVariants as undated
-use Rattle.desk_commands.specs.Calendars.{Seen, seen_in, seen_texts, calendar_order, OfSight, OfMember, OfCalendar, IsDated, IsFileOf, IsCalendarFile, IsBadSight, IsUndated, IsCalendarRun, IsCalendarHanded}
+use Rattle.desk_commands.specs.Calendars.{Seen, seen_in, seen_texts, calendar_order, OfSight, OfMember, OfCalendar, IsDated, IsFileOf, IsCalendarFile, IsBadSight, IsCalendarRun, IsCalendarHanded}
 use Rattle.desk_commands.specs.CalendarEnds.{unread_roster, CalendarCause}
 use Rattle.desk_commands.proofs.CalendarHeld.{seen_held, from_seen}
 use Rattle.desk_commands.proofs.CalendarNames.{named_so}
