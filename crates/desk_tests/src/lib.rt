@@ -8,4 +8,6 @@ mod june;
 #[cfg(test)]
 mod listed;
 #[cfg(test)]
+mod migrated;
+#[cfg(test)]
 mod traded;

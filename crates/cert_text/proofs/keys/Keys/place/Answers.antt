@@ -11,8 +11,8 @@ returns-in-Some-clause-within c =
 pub invariant_of-self-inside-in-Ok-insert : goal.invariant_of-self-inside-in-Ok-insert
 invariant_of-self-inside-in-Ok-insert c =
     let count : c.len-count.result ≡ length c.self.inside.keys.items = omega (arith, c.len-count.ensures) in (
-  placed_then c.self.inside.keys.items c.push.new.self.items c.in_ok-key.key c.in_ok-new.field-0 c.self.inside.places c.insert.new.self c.len-count.result
-      c.self.inside.placed (sym c.in_default.ensures.value) count c.in-Ok.ensures.items
-      (c.in_ok-new.ensures.value ∙ sym c.in_ok-key.ensures.value) c.in-Ok-insert.ensures.updates,
-  tt,
-)
+      placed_then c.self.inside.keys.items c.push.new.self.items c.in_ok-key.key c.in_ok-new.field-0 c.self.inside.places c.insert.new.self c.len-count.result
+          c.self.inside.placed (sym c.in_default.ensures.value) count c.in-Ok.ensures.items
+          (c.in_ok-new.ensures.value ∙ sym c.in_ok-key.ensures.value) c.in-Ok-insert.ensures.updates,
+      tt,
+    )
