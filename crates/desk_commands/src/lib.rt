@@ -1,4 +1,4 @@
-//! What each command over an award that stands does with the files of a folder: its answer as a value, with no text of it.
+//! What each command over an award that stands does over the files of a folder: its answer as a value.
 #![tactic(auto)]
 
 mod calendar_stop;
