@@ -1,5 +1,4 @@
--- What a fault of the roster's text becomes for `calendar`, and which changes of the shelf's counts and which file an end
--- comes with.
+-- What a fault of the roster's text becomes for `calendar`, and which counts and which file an end comes with.
 use Rattle.std.specs.Prelude.{◌≡◌, [], ◌∷◌, Some, None, Result, Ok, Err}
 use Rattle.shelf.specs.declared.tally.Tally.{Tally}
 use Rattle.month_files.specs.Reading.{UnreadCause}

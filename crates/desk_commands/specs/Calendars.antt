@@ -129,7 +129,8 @@ seen_texts seen = input_texts seen.inputs ++ (name_of Roster, seen.roster) ∷ [
 abbrev pub IsCalendarHanded : Entries → Entries → List ℕ → Result MemberCalendar CalendarStop → Type 0
 IsCalendarHanded old new name (Ok m) = FromReads calendar_order old new (λ files. IsCalendarFile files name m)
 IsCalendarHanded old new name (Err (stop.Unread why)) = Unit {0}
-IsCalendarHanded old new name (Err (stop.BadInput why)) = FromReads calendar_order old new (λ files. IsBadSight files why)
+IsCalendarHanded old new name (Err (stop.BadInput why)) =
+    FromReads calendar_order old new (λ files. IsBadSight files why)
 IsCalendarHanded old new name (Err (stop.No why)) = FromReads calendar_order old new (λ files. IsUndated files name why)
 IsCalendarHanded old new name (Err (stop.Unwritten m why)) =
     FromReads calendar_order old new (λ files. IsCalendarFile files name m)

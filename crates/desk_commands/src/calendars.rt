@@ -156,7 +156,8 @@ fn write_calendar<S: Shelf>(
         → IsCalendarRun files name result }
     ensures left { Leaves (S.holds shelf.old) (S.holds shelf.new) (calendar_written result) }
     ensures handed { (old : Entries) (name : Sequence ℕ)
-        → FromReads calendar_order old (S.log shelf.old) (λ files. IsCalendarFile files name calendar)
+        → FromReads calendar_order old (S.log shelf.old)
+        (λ files. IsCalendarFile files name calendar)
         → IsCalendarHanded old (S.log shelf.new) name result }
 {
     match shelf.write(
