@@ -1,20 +1,15 @@
 -- How `migrate` ends, from what its stages answer.
-use Rattle.std.proofs.Common.{◌≡◌, ℕ, ◌≤◌, Bool, true, false, cond, ltb, List, [], ◌∷◌, ◌++◌, length, Some, Ok, Err, refl, ap, ◌∙◌, nat_cmp, arith}
-use Rattle.std.specs.Cmp.Lexicographic.{slice_cmp}
-use Rattle.std.specs.FinMap.{find, get-from_entries}
-use Rattle.std.proofs.lemmas.Bool.Decides.{nat_tests}
-use Rattle.std.proofs.lemmas.Cmp.{nat_list_cmp_total}
+use Rattle.std.proofs.Common.{◌≡◌, ℕ, ◌≤◌, List, [], ◌∷◌, ◌++◌, length, Ok, Err, refl}
 use Rattle.month_files.specs.FileNames.{name_of, limit_of}
 use Rattle.month_files.specs.Handing.{FromReads}
-use Rattle.month_files.specs.Reading.{within, text_in}
-use Rattle.month_files.specs.declared.file.File.{File}
+use Rattle.month_files.specs.Reading.{text_in}
 use Rattle.month_files.specs.declared.file.File.TheVariants.{Certificate as CertificateFile}
-use Rattle.month_files.specs.declared.unread.Unread.TheVariants as unread
-use Rattle.shelf.specs.Files.{Files, file}
+use Rattle.shelf.specs.Files.{Files}
 use Rattle.shelf.specs.Logs.{Entries, holding}
 use Rattle.desk_commands.specs.declared.migrate_stop.Migrated.{Migrated}
 use Rattle.desk_commands.specs.declared.migrate_stop.MigrateStop.{MigrateStop}
 use Rattle.desk_commands.specs.declared.migrate_stop.MigrateStop.TheVariants as stop
+use Rattle.desk_commands.proofs.Held.{held}
 use Rattle.desk_commands.specs.Migrate.{IsRespelling, IsUnmigrated, IsMigrated, IsMigration, IsMigrationHanded, OfCertificate, migrating_order}
 
 -- ---- over files
@@ -30,21 +25,6 @@ module _ (files : Files) (text : List ℕ) (read : text_in files CertificateFile
   is_migrated m h = record { text = text; read = read; found = h }
 
 -- ---- over the text that the read handed in
-
-within_limit : (f : File) (bytes : List ℕ) → length bytes ≤ limit_of f → within f (Some bytes) ≡ Ok bytes
-within_limit f bytes le = by (ltb (limit_of f) (length bytes)) (not_over (limit_of f) (length bytes) le)
-  where
-    not_over : (limit n : ℕ) → n ≤ limit → ltb limit n ≡ false
-    not_over limit n le = grind (arith, nat_tests)
-
-    by : (b : Bool) → b ≡ false → cond b (Err (unread.TooLong f)) (Ok bytes) ≡ Ok bytes
-    by true e = absurd cc
-    by false e = refl
-
-held : (texts : Entries) (f : File) (bytes : List ℕ) → find (slice_cmp nat_cmp) (name_of f) texts ≡ Some bytes → length bytes ≤ limit_of f → text_in (holding texts) f ≡ Ok bytes
-held texts f bytes e le =
-    let found : file (holding texts) (name_of f) ≡ Some bytes = get-from_entries nat_list_cmp_total _ _ ∙ e in
-    ap (within f) found ∙ within_limit f bytes le
 
 module _ (old new : Entries) (text : List ℕ) (logged : new ≡ old ++ (name_of CertificateFile, text) ∷ []) (limit : length text ≤ limit_of CertificateFile) where
   abbrev texts : Entries

@@ -3,3 +3,5 @@ pub mod Migrate
 pub mod TradeEnds
 pub mod Trade
 pub mod TradeTexts
+pub mod Calendars
+pub mod CalendarEnds

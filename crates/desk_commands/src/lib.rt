@@ -2,11 +2,15 @@
 //! of it.
 #![tactic(auto)]
 
+mod calendar_stop;
+mod calendars;
 mod migrate_stop;
 mod migrating;
 mod trade_stop;
 mod trading;
 
+pub use calendar_stop::{CalendarStop, Undated};
+pub use calendars::{MemberCalendar, calendar};
 pub use migrate_stop::{MigrateStop, Migrated, Unmigrated};
 pub use migrating::migrate;
 pub use trade_stop::{TradeStop, Traded, Untraded};

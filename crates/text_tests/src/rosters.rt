@@ -34,7 +34,7 @@ fn month(rt: &impl Abort, alloc: Global, rules: Rules, who: Member, flown: Pairi
 }
 
 /// June 2026 in Dublin.
-fn june(rt: &impl Abort, alloc: Global) -> Problem
+pub(crate) fn june(rt: &impl Abort, alloc: Global) -> Problem
     ensures members { length result.base.members ≡ 1 }
     ensures pairings { length result.base.pairings ≡ 1 }
 {

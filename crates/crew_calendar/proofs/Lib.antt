@@ -1,0 +1,17 @@
+pub mod TextSteps
+pub mod FoldSteps
+pub mod FoldLines
+pub mod Chains
+pub mod ReadingEnds
+pub mod MomentSteps
+pub mod LinesAgain
+pub mod ValuesAgain
+pub mod CalendarAgain
+pub mod Made
+pub mod Printable
+pub mod Same
+pub mod Spelled
+pub mod Heads
+pub mod Printed
+pub mod Said
+pub mod ReadSays

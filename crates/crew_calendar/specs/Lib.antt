@@ -1,0 +1,12 @@
+pub mod Codes
+pub mod Folding
+pub mod Texts
+pub mod Moments
+pub mod Dates
+pub mod Seen
+pub mod Printing
+pub mod Content
+pub mod Reading
+pub mod Views
+pub mod Ends
+pub mod Table
