@@ -18,7 +18,7 @@ ghost use Rattle.month_files.specs.Writes.{Leaves};
 
 use crate::award_stop::{AwardStop, Finding, Found, Miss};
 use bid_score::scores_of;
-use cert_text::print_certificate_one;
+use cert_text::print_certificate;
 use duty_calendar::{List, Memory};
 use month_award::{AwardedMonth, MonthAward, UnfillableMonth, award_month};
 use month_files::{Draft, File, read_month, read_texts, write_all};
@@ -33,7 +33,7 @@ fn certificate_drafts(alloc: Global, certificate: &Certificate) -> Result<List<D
     ensures drafts { IfOk result (λ d. d ≡ certificate_draft certificate.now ∷ []) }
     ensures readable { OnOk result (IsReadable certificate.now) }
 {
-    let bytes = print_certificate_one(alloc, certificate)?;
+    let bytes = print_certificate(alloc, certificate)?;
     let mut drafts = List::new(alloc);
     let draft = Draft {
         file: File::Certificate,
