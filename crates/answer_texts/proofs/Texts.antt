@@ -1,5 +1,5 @@
 -- Numbers behind spaces, one more at a time.
-use Rattle.std.proofs.Common.{◌≡◌, ℕ, suc, ◌+◌, ◌<◌, List, [], ◌∷◌, ◌++◌, codes, length, get_or, take, drop, drop-cons, add-one, sym, ap, ◌∙◌, append_assoc, decimal}
+use Rattle.std.proofs.Common.{◌≡◌, ℕ, ◌+◌, ◌<◌, List, [], ◌∷◌, ◌++◌, codes, length, get_or, take, drop, drop-cons, add-one, sym, ap, ◌∙◌, append_assoc, decimal}
 use Rattle.std.proofs.lemmas.List.{take_more, append-nil}
 use Rattle.std.proofs.lemmas.Grind.{flat_map-append}
 use Rattle.command_words.specs.declared.command.Sizes.{Sizes}

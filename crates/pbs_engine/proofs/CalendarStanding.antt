@@ -1,15 +1,14 @@
 -- What an end of `calendar` says of the files before and after it, told or handed in.
-use Rattle.std.proofs.Common.{◌≡◌, ◌≢◌, ℕ, ◌≤◌, List, length, Option, Some, Result, Ok, Err, refl, sym, ap, subst, ◌∙◌}
+use Rattle.std.proofs.Common.{◌≡◌, ◌≢◌, ℕ, ◌≤◌, List, Option, Some, Result, Ok, Err, sym, ap, subst, ◌∙◌}
 use Rattle.std.specs.FinMap.{insert}
 use Rattle.shelf.specs.Files.{Files, file}
 use Rattle.shelf.specs.Logs.{Entries}
 use Rattle.shelf.specs.Puts.{with_piece}
 use Rattle.command_words.specs.declared.command.Command.{Command}
 use Rattle.command_words.specs.declared.command.Command.TheVariants as command
-use Rattle.crew_calendar.specs.Printing.{book_text}
 use Rattle.crew_calendar.specs.Seen.{Book}
 use Rattle.desk_commands.specs.CalendarEnds.{calendar_written}
-use Rattle.desk_commands.specs.Calendars.{OfCalendar, IsCalendarFile, IsCalendarRun, IsCalendarHanded, IsFileOf, calendar_order, ics_of}
+use Rattle.desk_commands.specs.Calendars.{OfCalendar, IsCalendarFile, IsCalendarRun, IsCalendarHanded, IsFileOf, calendar_order}
 use Rattle.desk_commands.specs.declared.calendar_stop.CalendarStop.{CalendarStop}
 use Rattle.desk_commands.specs.declared.calendar_stop.CalendarStop.TheVariants as stop
 use Rattle.desk_commands.specs.declared.calendars.MemberCalendar.{MemberCalendar}

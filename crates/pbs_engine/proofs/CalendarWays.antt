@@ -1,8 +1,8 @@
 -- The files of a folder have `calendar` end in one way, where nothing fails and memory is there.
-use Rattle.std.proofs.Common.{◌≡◌, ℕ, ◌≤◌, List, [], length, Option, Some, None, Result, Ok, Err, inl, inr, refl, sym, ap, subst, ◌∙◌, arith}
+use Rattle.std.proofs.Common.{◌≡◌, ℕ, ◌≤◌, List, [], length, Option, Some, None, Ok, Err, inl, inr, refl, sym, ap, subst, ◌∙◌, arith}
 use Rattle.std.specs.Prelude.{◌⊎◌}
 use Rattle.shelf.specs.Files.{Files}
-use Rattle.crew_calendar.specs.Seen.{Book, Entry}
+use Rattle.crew_calendar.specs.Seen.{Entry}
 use Rattle.crew_calendar.specs.Table.{table}
 use Rattle.desk_commands.specs.Calendars.{Seen, seen_in, HasBadSight, IsCalendarFile, IsUndated}
 use Rattle.desk_commands.specs.declared.calendar_stop.Undated.{Undated}

@@ -1,5 +1,5 @@
 -- The certificate's file has `migrate` end in one way, where nothing fails and memory is there.
-use Rattle.std.proofs.Common.{◌≡◌, ℕ, ◌<◌, ◌≤◌, List, length, Result, Ok, Err, inl, inr, refl, sym, ◌∙◌, arith}
+use Rattle.std.proofs.Common.{◌≡◌, ℕ, ◌<◌, ◌≤◌, List, length, Ok, Err, inl, inr, refl, sym, ◌∙◌, arith}
 use Rattle.std.specs.Prelude.{◌⊎◌}
 use Rattle.shelf.specs.Files.{Files}
 use Rattle.cert_text.specs.Reading.{certificate_in}

@@ -1,5 +1,5 @@
 -- The files of a folder have `trade` end in one way, where nothing fails and memory is there.
-use Rattle.std.proofs.Common.{◌≡◌, ℕ, List, Result, Ok, Err, inl, inr, refl, sym, subst, ◌∙◌}
+use Rattle.std.proofs.Common.{◌≡◌, ℕ, List, Ok, Err, inl, inr, refl, sym, subst, ◌∙◌}
 use Rattle.std.specs.Prelude.{◌⊎◌}
 use Rattle.shelf.specs.Files.{Files}
 use Rattle.desk_commands.specs.Trade.{Offered, offered_in, HasRoster, HasTraded, HasUntraded, HasBadOffer, IsUntraded}
