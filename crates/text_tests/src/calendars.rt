@@ -29,7 +29,7 @@ const ENTRY: &[u8] =
 
 /// The calendar of the member who flies the one pairing.
 const FLYING: &[u8] =
-    b"BEGIN:VCALENDAR\r\nVERSION:2.0\r\nPRODID:-//pbs//crew calendar//EN\r\nBEGIN:VEVENT\r\nUID:p.P1.M1.202606@pbs\r\nDTSTAMP:20260601T000000Z\r\nDTSTART:20260610T080000Z\r\nDTEND:20260610T143000Z\r\nSUMMARY:P1\r\nDESCRIPTION:1: DUB-LHR 09:00-13:00\r\nEND:VEVENT\r\nEND:VCALENDAR\r\n";
+    b"BEGIN:VCALENDAR\r\nVERSION:2.0\r\nPRODID:-//pbs//crew calendar//EN\r\nBEGIN:VEVENT\r\nUID:p.P1.M1.202606@pbs\r\nDTSTAMP:20260601T000000Z\r\nDTSTART:20260610T000000Z\r\nDTEND:20260610T063000Z\r\nSUMMARY:P1\r\nDESCRIPTION:1: DUB-LHR 01:00-05:00\r\nEND:VEVENT\r\nEND:VCALENDAR\r\n";
 
 /// A calendar of three duties, whose description has 82 bytes, and a name with each byte that is marked.
 const FOLDED: &[u8] =
