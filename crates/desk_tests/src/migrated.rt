@@ -31,13 +31,18 @@ fn shelf_with(rt: &impl Abort, alloc: Global, certificate: &str) -> MemoryShelf 
     shelf
 }
 
+/// Says what the folder's certificate and roster are.
+fn assert_files(rt: &impl Abort, shelf: &MemoryShelf, certificate: &str, roster: &str) {
+    assert_eq!(rt; shelf.file("certificate.txt"), Some(certificate.as_bytes()));
+    assert_eq!(rt; shelf.file("roster.csv"), Some(roster.as_bytes()));
+}
+
 /// Says which version a certificate had, and that it stands in the folder in version 2 afterwards.
 fn assert_migrated(rt: &impl Abort, alloc: Global, text: &str, version: u32) {
     let mut shelf = shelf_with(rt, alloc, text);
     let migrated = migrate(alloc, &mut shelf).ok().expect(rt, "a certificate");
     assert_eq!(rt; migrated.version, version);
-    assert_eq!(rt; shelf.file("certificate.txt"), Some(TWO.as_bytes()));
-    assert_eq!(rt; shelf.file("roster.csv"), Some(b"as it was".as_slice()));
+    assert_files(rt, &shelf, TWO, "as it was");
 }
 
 #[test]
