@@ -1,0 +1,10 @@
+pub mod Among
+pub mod Grants
+pub mod Scores
+pub mod ClassLines
+pub mod Before
+pub mod Plain
+pub mod Wider
+pub mod Packs
+pub mod Loops
+pub mod Bits
