@@ -19,6 +19,7 @@ use Rattle.roster_model.specs.declared.problem.Problem.{Problem}
 use Rattle.roster_model.specs.declared.proof.Lens.{Lens}
 use Rattle.roster_model.specs.Spans.{event_span}
 use Rattle.roster_model.specs.Timelines.{fixed_of}
+use Rattle.lens_classes.specs.declared.terms.Terms.{Terms}
 use Rattle.line_items.proofs.ItemSteps.{day_step}
 use Rattle.line_items.specs.BusyDays.{is_fixed_busy, fixed_busy_days}
 use Rattle.line_items.specs.Items.{item_span}
@@ -221,15 +222,15 @@ pub fixed_count : (problem : Problem) (member : ℕ) (lens : Lens) (mask : ℕ) 
 fixed_count problem member lens mask is m = rw is (ones_count (month_days problem.base.rules.horizon) mask (is_fixed_busy problem member) m)
 
 -- what a step adds
-pub step_is : (problem : Problem) (member : ℕ) (lens : Lens) (adds : ℕ → ℕ) (i j cap fixed before span : ℕ) → lens.days ≡ true
+pub step_is : (problem : Problem) (member : ℕ) (lens : Lens) (terms : Terms) (adds : ℕ → ℕ) (i j cap fixed before span : ℕ) → lens.days ≡ true
     → fixed < 2 ^ 32 → before < 2 ^ 32
-    → cap ≡ month_days problem.base.rules.horizon - problem.base.rules.days_off
+    → cap ≡ month_days problem.base.rules.horizon - terms.days_off
     → IsDayMask (month_days problem.base.rules.horizon) (is_fixed_busy problem member) fixed
     → IsDayMask (month_days problem.base.rules.horizon) (is_touching (item_span problem member lens (adds i))) before
     → IsDayMask (month_days problem.base.rules.horizon) (is_touching (item_span problem member lens (adds j))) span
     → ◌≡◌ {A = LeastStep} (record { add = count_ones (bit_and (bit_and span (bit_not w32 fixed)) (bit_not w32 before)); cap = cap })
-    (day_step problem member lens adds i j)
-step_is problem member lens adds i j cap fixed before span is small_fixed small_before cap_is m n o =
+    (day_step problem member lens terms adds i j)
+step_is problem member lens terms adds i j cap fixed before span is small_fixed small_before cap_is m n o =
     let few = days_in_month_bounds problem.base.rules.horizon.year problem.base.rules.horizon.month in
     rw is (same_step _ _ _ _ (added_count (month_days problem.base.rules.horizon) (is_fixed_busy problem member) (is_touching (item_span problem member lens (adds i)))
     (is_touching (item_span problem member lens (adds j))) fixed before span (omega (arith, few.0)) small_fixed small_before m n o) cap_is)

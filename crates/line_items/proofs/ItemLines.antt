@@ -20,6 +20,7 @@ use Rattle.roster_model.specs.Timelines.{history_of, fixed_of}
 use Rattle.roster_model.specs.Spans.{duty_event, first_report, last_release, pairing_span, event_span}
 use Rattle.line_items.specs.Clear.{is_tiring, is_crossing, duties_of, is_base_rested, is_clear, may_fly, must_fly}
 use Rattle.line_items.proofs.Apart.{IsApartLine, begins_at, rests_until, is_visited}
+use Rattle.lens_classes.specs.declared.terms.Terms.{Terms}
 use Rattle.line_items.specs.Items.{visited_flights, item_count, by_item, item_begins, item_rests, may_visit_item, must_visit_item, is_base_open}
 use Rattle.line_items.proofs.Resting.{Lasts, none_parts}
 use Rattle.line_items.proofs.Following.{AreDuties, last_tires}
@@ -208,12 +209,12 @@ module _ (problem : Problem) (member : ℕ) (lens : Lens) where
       visited = is_visited problem member lens flown
 
       -- the items of a line whose pairings fit
-      pub items_apart : is_base_open problem member lens ≡ true
+      pub items_apart : {base : Bool} → base ≡ true
           → IsApartLine (is_base_rested problem member) (may_fly problem member node) (must_fly member node) (begins_at problem) (rests_until problem) flown
-          → IsApartLine (is_base_open problem member lens) (may_visit_item problem member node lens) (must_visit_item problem member node lens)
+          → IsApartLine base (may_visit_item problem member node lens) (must_visit_item problem member node lens)
           (item_begins problem member lens) (item_rests problem member lens) (is_visited problem member lens flown)
-      items_apart base line = record {
-        base_holds = base;
+      items_apart holds line = record {
+        base_holds = holds;
         each_allowed = λ n v. elim (cases_lt n pairings) [
           | inl lt ↦ rw (less_true n pairings lt) (line.each_allowed n (sym (visited_pairing flown n lt) ∙ v))
           | inr le ↦ rw (not_less n pairings le) (sym (visited_flight flown n le) ∙ v)
@@ -254,11 +255,11 @@ module _ (problem : Problem) (member : ℕ) (lens : Lens) where
           pair_moved (inr h) p q u v = inr (omega arith)
 
       -- the pairings of a line whose items fit
-      pub pairings_apart : ((p : ℕ) → must_fly member node p ≡ true → p < length problem.base.pairings)
-          → IsApartLine (is_base_open problem member lens) (may_visit_item problem member node lens) (must_visit_item problem member node lens)
+      pub pairings_apart : (terms : Terms) → ((p : ℕ) → must_fly member node p ≡ true → p < length problem.base.pairings)
+          → IsApartLine (is_base_open problem member lens terms) (may_visit_item problem member node lens) (must_visit_item problem member node lens)
           (item_begins problem member lens) (item_rests problem member lens) (is_visited problem member lens flown)
           → IsApartLine (is_base_rested problem member) (may_fly problem member node) (must_fly member node) (begins_at problem) (rests_until problem) flown
-      pairings_apart range line = record {
+      pairings_apart terms range line = record {
         base_holds = (and_parts (is_base_rested problem member) _ line.base_holds).0;
         each_allowed = λ p f. let lt = small p f in let may = line.each_allowed p (visited_pairing flown p lt ∙ f) in rw (less_true p pairings lt) at may;
         all_must = λ p m. let lt = range p m in

@@ -15,6 +15,7 @@ use Rattle.label_lattice.specs.declared.values.LatestStep.{LatestStep}
 use Rattle.label_lattice.specs.declared.values.LeastStep.{LeastStep}
 use Rattle.roster_model.specs.declared.problem.Problem.{Problem}
 use Rattle.roster_model.specs.declared.proof.Lens.{Lens}
+use Rattle.lens_classes.specs.declared.terms.Terms.{Terms}
 use Rattle.line_items.specs.BusyDays.{is_fixed_busy, month_count}
 use Rattle.line_items.specs.Clear.{base_of}
 use Rattle.line_items.specs.FreeBlocks.{last_block, item_least, base_block, own_block}
@@ -28,11 +29,11 @@ added_days problem member before span =
     month_count problem (λ day. is_touching span day && not (is_fixed_busy problem member day) && not (is_touching before day))
 
 -- what the way from one item to another adds to the busy days
-abbrev pub day_step : Problem → ℕ → Lens → (ℕ → ℕ) → ℕ → ℕ → LeastStep
-day_step problem member lens adds i j =
+abbrev pub day_step : Problem → ℕ → Lens → Terms → (ℕ → ℕ) → ℕ → ℕ → LeastStep
+day_step problem member lens terms adds i j =
     if lens.days then record {
       add = added_days problem member (item_span problem member lens (adds i)) (item_span problem member lens (adds j));
-      cap = month_days problem.base.rules.horizon - problem.base.rules.days_off;
+      cap = month_days problem.base.rules.horizon - terms.days_off;
     }
     else record { add = 0; cap = 0 }
 
@@ -104,14 +105,14 @@ is_busy_with problem member lens item other =
     is_touching (item_span problem member lens item) (day_of problem member lens other)
     && is_open_day problem member (day_of problem member lens other)
 
-abbrev pub daily_step : Problem → ℕ → Lens → (ℕ → ℕ) → ℕ → ℕ → ℕ → DailyStep
-daily_step problem member lens adds t i j =
+abbrev pub daily_step : Problem → ℕ → Lens → Terms → (ℕ → ℕ) → ℕ → ℕ → ℕ → DailyStep
+daily_step problem member lens terms adds t i j =
     if lens.days then record {
       add = added_days problem member (item_span problem member lens (adds 0)) (item_span problem member lens (adds t));
       again = is_busy_with problem member lens (adds t) (adds t);
       keeps = day_of problem member lens (adds i) == day_of problem member lens (adds j);
       sets = is_busy_with problem member lens (adds t) (adds j);
-      cap = month_days problem.base.rules.horizon - problem.base.rules.days_off;
+      cap = month_days problem.base.rules.horizon - terms.days_off;
     }
     else record { add = 0; again = false; keeps = false; sets = false; cap = 0 }
 

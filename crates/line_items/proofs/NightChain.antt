@@ -1,8 +1,7 @@
 -- The nights in a row run along a line's stops exactly where none of its flights of the month is a fourth night.
-use Rattle.std.proofs.Common.{◌≡◌, ℕ, suc, ◌+◌, ◌-◌, min, ◌<◌, ◌≤◌, Bool, true, false, ◌&&◌, List, [], ◌∷◌, ◌++◌, Option, Some, None, refl, ap, sym, ◌∙◌, subst, arith, inl, inr, ◌⊎◌, ◌==◌}
-use Rattle.std.specs.Prelude.{nat_lt, nat_le, map, if◌then◌else◌}
-use Rattle.std.specs.List.{AllByRecursion}
-use Rattle.std.proofs.lemmas.Bool.{and_parts, and_from, cases_Bool, cases_lt, false≢true, true≢false}
+use Rattle.std.proofs.Common.{◌≡◌, ℕ, ◌+◌, ◌≤◌, Bool, true, false, ◌&&◌, List, [], ◌∷◌, ◌++◌, Option, Some, None, refl, ap, sym, ◌∙◌, subst, arith, inl, inr, ◌⊎◌, ◌==◌}
+use Rattle.std.specs.Prelude.{nat_lt, nat_le, if◌then◌else◌}
+use Rattle.std.proofs.lemmas.Bool.{and_parts, cases_Bool}
 use Rattle.std.proofs.lemmas.Bool.Decides.{nat_tests}
 use Rattle.duty_calendar.specs.declared.event.Event.{Event}
 use Rattle.duty_calendar.specs.declared.interval.Interval.{Interval}
@@ -16,19 +15,19 @@ use Rattle.roster_model.specs.declared.proof.Lens.{Lens}
 use Rattle.roster_model.specs.Spans.{last_release, pairing_span, event_span}
 use Rattle.roster_model.specs.Timelines.{events_of}
 use Rattle.line_items.specs.Items.{item_begins, item_span}
-use Rattle.line_items.specs.NightRows.{night_after, nights_after, released_after, stays_short, item_flights, lead_of, reset_of, alone_of, item_lead, item_reset, item_alone, item_row, past_flights, past_row, past_until, night_until, night_start}
+use Rattle.line_items.specs.NightRows.{nights_after, released_after, stays_short, item_flights, past_flights, past_row, past_until, night_until, night_start}
 use Rattle.line_items.proofs.Completing.{Completes, still}
 use Rattle.line_items.proofs.Fitting.{IsSoundMonth}
-use Rattle.line_items.proofs.FreeChain.{AtPairing, AtFlight, IsStop, stop_at}
+use Rattle.line_items.proofs.FreeChain.{IsStop, stop_at}
 use Rattle.line_items.proofs.FreeMinutes.{picked, refused}
 use Rattle.line_items.proofs.FreeMinutes.{at_pairing, at_flight, at_none}
 use Rattle.line_items.proofs.ItemSteps.{night_step}
 use Rattle.line_items.proofs.NightItems.{soon_step, alone_step, run_to, soon_run, alone_run, short_row, short_more, short_from_three}
 use Rattle.line_items.proofs.NightOrder.{short_from, short_to}
 use Rattle.line_items.proofs.NightOrder.{short_early, short_late, keeps_short, same_nights, other_way}
-use Rattle.line_items.proofs.NightStops.{IsNightStop, night_stop, flights_on, line_flights, line_row, same_flights, early_past, late_on, sink_flights, sink_begins}
+use Rattle.line_items.proofs.NightStops.{IsNightStop, night_stop, flights_on, line_flights, line_row, same_flights, early_past, late_on, sink_flights}
 use Rattle.line_items.proofs.Visited.{IsVisited}
-use Rattle.line_items.proofs.Visits.{above, in_end, or_left_true, or_right_true, eq_to}
+use Rattle.line_items.proofs.Visits.{in_end, or_left_true, or_right_true, eq_to}
 use Rattle.line_items.proofs.Walking.{is_in_list, ascends}
 use Rattle.line_items.proofs.Walks.{and_then, run, along, end_of}
 

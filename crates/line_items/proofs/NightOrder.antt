@@ -1,16 +1,16 @@
 -- Nights in a row are counted flight by flight, where flights follow one another.
-use Rattle.std.proofs.Common.{◌≡◌, ℕ, zero, suc, ◌+◌, ◌-◌, min, ◌<◌, ◌≤◌, Bool, true, false, ◌&&◌, ◌||◌, List, [], ◌∷◌, ◌++◌, Option, Some, None, length, get_or, refl, ap, sym, ◌∙◌, subst, arith, inl, inr, ◌⊎◌, append_assoc, length-append}
-use Rattle.std.specs.Prelude.{All, AllPairs, Contains, count_by, nat_lt, nat_le, if◌then◌else◌}
+use Rattle.std.proofs.Common.{◌≡◌, ℕ, ◌+◌, ◌-◌, ◌<◌, ◌≤◌, Bool, true, false, ◌&&◌, ◌||◌, List, [], ◌∷◌, ◌++◌, length, get_or, refl, ap, sym, ◌∙◌, subst, arith, inl, inr, ◌⊎◌, append_assoc, length-append}
+use Rattle.std.specs.Prelude.{All, AllPairs, Contains, nat_lt}
 use Rattle.std.specs.List.{AllByRecursion}
 use Rattle.std.specs.List.Sorted.{IsNonDecreasingBy}
-use Rattle.std.proofs.lemmas.Bool.{and_parts, cases_Bool, cases_lt, true≢false, leb-true, ltb-true}
+use Rattle.std.proofs.lemmas.Bool.{and_parts, cases_Bool, cases_lt, true≢false, ltb-true}
 use Rattle.std.proofs.lemmas.Bool.Decides.{nat_tests}
 use Rattle.std.proofs.lemmas.List.{get_or-append_right, get_or_default}
 use Rattle.std.proofs.lemmas.List.Elements.{All-from_recursion}
 use Rattle.duty_calendar.specs.declared.event.Event.{Event}
 use Rattle.duty_calendar.specs.Minutes.{is_between, is_flight}
 use Rattle.duty_calendar.specs.Events.{HasFlightsApart}
-use Rattle.duty_calendar.specs.Nights.{infringes, IsNight, FollowsSoon, IsFourthNight, KeepsNights}
+use Rattle.duty_calendar.specs.Nights.{infringes, IsNight, FollowsSoon, KeepsNights}
 use Rattle.duty_calendar.proofs.Pairs.{count_from_pairs}
 use Rattle.part117_limits.proofs.Breaks.{night_breaks}
 use Rattle.part117_limits.proofs.NightRows.{IsCounted, RowEnds, flies_by_night, none_counted, row_with, flown, fourth_found, none_found, grows_by_one}

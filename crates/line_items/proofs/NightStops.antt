@@ -1,8 +1,8 @@
 -- The flights of a line, stop by stop.
-use Rattle.std.proofs.Common.{◌≡◌, ℕ, suc, ◌+◌, ◌-◌, ◌<◌, ◌≤◌, Bool, true, false, ◌&&◌, List, [], ◌∷◌, ◌++◌, Option, Some, None, length, refl, ap, sym, ◌∙◌, subst, arith, inl, inr, ◌⊎◌, ◌==◌}
-use Rattle.std.specs.Prelude.{nat_lt, nat_le, filter, map, slice_get, Contains, if◌then◌else◌}
+use Rattle.std.proofs.Common.{◌≡◌, ℕ, ◌+◌, ◌-◌, ◌<◌, ◌≤◌, Bool, true, false, ◌&&◌, List, [], ◌∷◌, ◌++◌, Option, length, refl, ap, sym, ◌∙◌, subst, arith, inl, inr, ◌⊎◌, ◌==◌}
+use Rattle.std.specs.Prelude.{filter, map, slice_get, Contains, if◌then◌else◌}
 use Rattle.std.specs.List.{AllByRecursion}
-use Rattle.std.proofs.lemmas.Bool.{cases_Bool, cases_lt, false≢true, true≢false}
+use Rattle.std.proofs.lemmas.Bool.{cases_lt, false≢true, true≢false}
 use Rattle.std.proofs.lemmas.Bool.Decides.{nat_tests}
 use Rattle.std.proofs.lemmas.List.Elements.{recursion_from_All, All-from_recursion, All-filter, All-contains, All-contains_itself, filter_passes}
 use Rattle.std.proofs.lemmas.Option.{slice_get_within}
@@ -13,19 +13,19 @@ use Rattle.duty_calendar.specs.declared.interval.Interval.{Interval}
 use Rattle.duty_calendar.specs.declared.pairing.Duty.{Duty}
 use Rattle.duty_calendar.specs.declared.pairing.Pairing.{Pairing}
 use Rattle.duty_calendar.specs.Limits.{IsRested}
-use Rattle.duty_calendar.specs.Minutes.{is_between, is_duty, is_flight, has_duty, is_duty_minute}
+use Rattle.duty_calendar.specs.Minutes.{is_between, is_duty, is_flight, has_duty}
 use Rattle.roster_model.specs.declared.problem.Problem.{Problem}
 use Rattle.roster_model.specs.declared.node.Decision.{Decision}
 use Rattle.roster_model.specs.declared.proof.Lens.{Lens}
 use Rattle.roster_model.specs.Spans.{duty_event, duty_events, first_report, last_release, pairing_span, event_span}
 use Rattle.roster_model.specs.Timelines.{history_of, fixed_of, events_of, coming_events, pairings_of}
 use Rattle.line_items.specs.Clear.{duties_of}
-use Rattle.line_items.specs.Items.{visited_flights, item_count, item_begins, item_rests, item_span}
+use Rattle.line_items.specs.Items.{visited_flights, item_begins, item_rests, item_span}
 use Rattle.line_items.specs.NightRows.{released_after, item_flights, past_flights}
 use Rattle.line_items.proofs.Fitting.{IsSoundMonth}
 use Rattle.line_items.proofs.Following.{AreDuties, InOrder, Within, within}
-use Rattle.line_items.proofs.FreeChain.{from_reads, of_duties, to_duties, pairing_at}
-use Rattle.line_items.proofs.FreeChain.{AtPairing, AtFlight, IsStop, stop_at, pairing_begins, pairing_rests, flight_begins, flight_rests, flights_are, flight_has, flight_lasts, below_sink, place_of, sound_at, in_history, rested_first, late_first, follows}
+use Rattle.line_items.proofs.FreeChain.{from_reads, pairing_at}
+use Rattle.line_items.proofs.FreeChain.{AtPairing, AtFlight, IsStop, stop_at, pairing_begins, pairing_rests, flight_begins, flight_rests, flights_are, flight_has, flight_lasts, sound_at, in_history, rested_first, late_first, follows}
 use Rattle.line_items.proofs.FreeMinutes.{of_filter, each_flat, duties_late, history_early, fixed_late}
 use Rattle.line_items.proofs.FreeMinutes.{at_pairing, at_flight, at_none}
 use Rattle.line_items.proofs.LineParts.{PairsBy, pairs_to, pairs_join, all_join, all_first, all_second}
@@ -35,7 +35,6 @@ use Rattle.line_items.proofs.Resting.{Lasts, none_parts}
 use Rattle.line_items.proofs.Visited.{IsVisited}
 use Rattle.line_items.proofs.Visits.{above, in_end, or_parts, or_left_true, or_right_true, eq_from, eq_to}
 use Rattle.line_items.proofs.Walking.{is_in_list, ascends}
-use Rattle.line_items.proofs.Walks.{end_of}
 
 -- within two times
 pub record Between (low high : ℕ) (e : Event) : Type 0 where

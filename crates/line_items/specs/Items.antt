@@ -12,6 +12,7 @@ use Rattle.roster_model.specs.Timelines.{fixed_of}
 use Rattle.roster_model.specs.declared.node.Decision.{Decision}
 use Rattle.roster_model.specs.declared.problem.Problem.{Problem}
 use Rattle.roster_model.specs.declared.proof.Lens.{Lens}
+use Rattle.lens_classes.specs.declared.terms.Terms.{Terms}
 use Rattle.line_items.specs.Clear.{duties_of, is_base_rested, may_fly, must_fly}
 
 -- the fixed flights that each chain visits
@@ -54,7 +55,7 @@ must_visit_item problem member node lens item =
     else nat_lt item (item_count problem member lens)
 
 -- whether any line can pass: the fixed flights have their rest, and the month has as many days as are to be off
-abbrev pub is_base_open : Problem → ℕ → Lens → Bool
-is_base_open problem member lens =
+abbrev pub is_base_open : Problem → ℕ → Lens → Terms → Bool
+is_base_open problem member lens terms =
     is_base_rested problem member
-    && (not lens.days || nat_le problem.base.rules.days_off (month_days problem.base.rules.horizon))
+    && (not lens.days || nat_le terms.days_off (month_days problem.base.rules.horizon))

@@ -7,10 +7,9 @@ use Rattle.roster_model.specs.Lenses.{is_tracked}
 use Rattle.roster_model.specs.Scores.{bids_of}
 use Rattle.roster_model.specs.declared.bid.Bid.{Bid}
 use Rattle.roster_model.specs.declared.bid.Wish.{Wish}
-use Rattle.roster_model.specs.declared.goal.BidRef.{BidRef}
-use Rattle.roster_model.specs.declared.goal.Goal.{Goal}
 use Rattle.roster_model.specs.declared.problem.Problem.{Problem}
 use Rattle.roster_model.specs.declared.proof.Lens.{Lens}
+use Rattle.lens_classes.specs.declared.terms.Terms.{Terms}
 use Rattle.line_items.specs.Hits.{is_wanting, is_hit, is_spoiled}
 use Rattle.line_items.specs.declared.masks.Mark.TheVariants.{Start, Clear, Set}
 use Rattle.line_items.specs.declared.masks.Mark.{Mark}
@@ -39,28 +38,23 @@ pub record IsMask (problem : Problem) (member : ℕ) (lens : Lens) (mark : Mark)
   pub within : mask < 2 ^ 64
   pub bits : (b : ℕ) → b < 64 → bit_at mask b ≡ (if is_bit problem member lens mark b then 1 else 0)
 
--- the number of a bid, where it is the member's and tracked
-abbrev pub own_bid : ℕ → Lens → BidRef → Option ℕ
-own_bid member lens b = if b.member == member && is_tracked lens b.bid then Some b.bid else None
-
--- the bid that the end demands: such a bid that the goal wants granted
-abbrev pub asked_bid : Goal → ℕ → Lens → Option ℕ
-asked_bid goal member lens = option_and_then (own_bid member lens) goal.grant
+-- the bid that the end demands: the one that the terms ask for, where it is tracked
+abbrev pub asked_bid : Lens → Terms → Option ℕ
+asked_bid lens terms = option_and_then (λ bid. if is_tracked lens bid then Some bid else None) terms.asked
 
 -- the weight of the bid of this number, and 100,000 more where it is demanded
 abbrev pub end_weight : List Bid → Option ℕ → ℕ → ℕ
 end_weight bids asked b =
     option_map_or (λ x. x.weight) (slice_get bids b) 0 + (if option_map_or (λ g. b == g) asked false then 100000 else 0)
 
--- what the member is to reach, and 100,000 more where a bid is demanded
-abbrev pub end_floor : Goal → ℕ → Option ℕ → ℕ
-end_floor goal member asked =
-    min (option_map_or (λ f. f) (slice_get goal.floors member) 0) 64001 + option_map_or (λ g. 100000) asked 0
+-- what the bids are to weigh, and 100,000 more where a bid is demanded
+abbrev pub end_floor : Terms → Option ℕ → ℕ
+end_floor terms asked = min terms.floor 64001 + option_map_or (λ g. 100000) asked 0
 
 -- a bit for each of 64 bids, those weights, and that floor
-pub record IsBidsEnd (problem : Problem) (member : ℕ) (goal : Goal) (lens : Lens) (done : MaskEnd) : Type 0 where
+pub record IsBidsEnd (problem : Problem) (member : ℕ) (lens : Lens) (terms : Terms) (done : MaskEnd) : Type 0 where
   pub bits : length done.weights ≡ 64
   pub weights :
       (b : ℕ) → b < 64
-      → slice_index done.weights b ≡ end_weight (bids_of problem member) (asked_bid goal member lens) b
-  pub floor : done.floor ≡ end_floor goal member (asked_bid goal member lens)
+      → slice_index done.weights b ≡ end_weight (bids_of problem member) (asked_bid lens terms) b
+  pub floor : done.floor ≡ end_floor terms (asked_bid lens terms)

@@ -1,5 +1,5 @@
 -- Nights in a row: how many flights leave behind, and what an item adds to a row that it follows soon.
-use Rattle.std.specs.Prelude.{ℕ, suc, ◌+◌, ◌-◌, min, Bool, true, false, ◌&&◌, nat_lt, List, [], ◌∷◌, Option, Some, None, filter, if◌then◌else◌}
+use Rattle.std.specs.Prelude.{ℕ, suc, ◌+◌, min, Bool, true, ◌&&◌, nat_lt, List, [], ◌∷◌, Option, Some, None, filter, if◌then◌else◌}
 use Rattle.duty_calendar.specs.Minutes.{is_flight}
 use Rattle.duty_calendar.specs.Nights.{infringes}
 use Rattle.duty_calendar.specs.declared.event.Event.{Event}

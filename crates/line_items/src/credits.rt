@@ -1,13 +1,13 @@
 //! Credit of fixed events, and credit rounded to a lens's grain.
 ghost use Rattle.std.specs.Prelude.{◌≡◌, ◌<◌, ◌≤◌, ◌^◌, true, length, slice_get, sum_by};
 ghost use Rattle.std.specs.Option.{option_map_or};
-ghost use Rattle.roster_model.specs.Legality.{high_of, low_of};
 ghost use Rattle.roster_model.specs.Lenses.{ceil_to, floor_to, is_grain};
 ghost use Rattle.roster_model.specs.Timelines.{fixed_of};
 
 use crate::member::fixed_of;
 use duty_calendar::Event;
 use label_lattice::{Span, SpanEnd};
+use lens_classes::Terms;
 use roster_model::Problem;
 
 /// The credit rounded down to a multiple of the grain, all in minutes.
@@ -46,13 +46,10 @@ pub(crate) fn fixed_credit(problem: &Problem, member: u32) -> u32
 }
 
 /// The credit that a line is to come up to.
-pub fn credit_end(problem: &Problem, member: u32) -> SpanEnd
-    requires member { member < length problem.now.base.members }
-    ensures low { result.low ≡ low_of problem.now member }
+pub fn credit_end(terms: &Terms) -> SpanEnd
+    ensures low { result.low ≡ terms.now.low }
 {
-    SpanEnd {
-        low: problem.base.members.as_slice()[member as usize].low,
-    }
+    SpanEnd { low: terms.low }
 }
 
 /// The credit at the source.

@@ -8,6 +8,7 @@ ghost use Rattle.line_items.specs.DayMasks.{IsDayMask};
 
 use crate::member::{event_span, fixed_of, is_duty};
 use duty_calendar::Interval;
+use lens_classes::Terms;
 use roster_model::{Lens, Problem};
 
 /// Whether the span has a minute of the day.
@@ -60,11 +61,14 @@ pub fn fixed_busy_days(problem: &Problem, member: u32, lens: &Lens) -> u32
     }
 }
 
-/// How many days of the month may be busy.
-pub fn busy_cap(problem: &Problem) -> u32
-    ensures cap { result ≡ month_days problem.now.base.rules.horizon
-        - problem.now.base.rules.days_off }
+/// How many days of the month may be busy by the terms.
+pub fn busy_cap(problem: &Problem, terms: &Terms) -> u32
+    ensures cap { result ≡ month_days problem.now.base.rules.horizon - terms.now.days_off }
 {
-    let rules = &problem.base.rules;
-    rules.horizon.days().saturating_sub(rules.days_off)
+    problem
+        .base
+        .rules
+        .horizon
+        .days()
+        .saturating_sub(terms.days_off)
 }

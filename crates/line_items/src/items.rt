@@ -9,6 +9,7 @@ ghost use Rattle.line_items.specs.Items.{visited_flights, is_base_open};
 use crate::clear::is_base_rested;
 use crate::member::{event_span, fixed_of};
 use duty_calendar::{Event, Interval, Kind, Memory};
+use lens_classes::Terms;
 use roster_model::{Lens, Problem};
 
 /// Appends the spans of the events that are flights.
@@ -49,18 +50,18 @@ pub fn fill_flights(
     Ok(())
 }
 
-/// Whether the month has as many days as are to be off, where the lens looks at days.
-fn has_days(problem: &Problem, lens: &Lens) -> bool
-    ensures days { result ≡ (not lens.now.days || nat_le problem.now.base.rules.days_off
+/// Whether the month has as many days as the terms want off, where the lens looks at days.
+fn has_days(problem: &Problem, terms: &Terms, lens: &Lens) -> bool
+    ensures days { result ≡ (not lens.now.days || nat_le terms.now.days_off
         (month_days problem.now.base.rules.horizon)) }
 {
-    !lens.days || problem.base.rules.days_off <= problem.base.rules.horizon.days()
+    !lens.days || terms.days_off <= problem.base.rules.horizon.days()
 }
 
 /// Whether any line can pass: the fixed flights have their rest, and the month has days enough.
-pub fn is_base_open(problem: &Problem, member: u32, lens: &Lens) -> bool
+pub fn is_base_open(problem: &Problem, member: u32, terms: &Terms, lens: &Lens) -> bool
     requires member { member < length problem.now.base.members }
-    ensures base { result ≡ is_base_open problem.now member lens.now }
+    ensures base { result ≡ is_base_open problem.now member lens.now terms.now }
 {
-    is_base_rested(problem, member) && has_days(problem, lens)
+    is_base_rested(problem, member) && has_days(problem, terms, lens)
 }

@@ -9,7 +9,8 @@ ghost use Rattle.line_items.specs.declared.masks.Mark.TheVariants.{Start, Clear,
 
 use crate::hits::{is_hit, is_spoiled, is_wanting};
 use label_lattice::{MaskEnd, MaskStep};
-use roster_model::{Bid, Goal, Lens, Problem, Wish};
+use lens_classes::Terms;
+use roster_model::{Bid, Lens, Problem, Wish};
 
 /// Which bits of a mask: those of the bids that the member's own events leave open or spoil, those that an item
 /// clears, or those that it sets. An item is a number of a pairing, or a number behind all pairings.
@@ -24,7 +25,7 @@ pub enum Mark {
 const DEMAND: u32 = 100_000;
 
 /// More than all bids of a member weigh.
-const UNREACHABLE: u32 = 64_001;
+const UNREACHABLE: u64 = 64_001;
 
 /// Whether the bit is set.
 #[tactic(auto, using(std::proofs::lemmas::Nat::Bits::shr_and_one))]
@@ -138,14 +139,14 @@ pub fn is_tracked(lens: &Lens, bid: u32) -> bool
     false
 }
 
-/// The bid that the goal wants granted, where it is this member's.
-fn asked_bid(goal: &Goal, member: u32, lens: &Lens) -> Option<u32>
-    ensures asked { result ≡ asked_bid goal.now member lens.now }
+/// The bid that the terms ask for, where the lens tracks it.
+fn asked_bid(terms: &Terms, lens: &Lens) -> Option<u32>
+    ensures asked { result ≡ asked_bid lens.now terms.now }
 {
-    match goal.grant {
-        Some(wanted) => {
-            if wanted.member == member && is_tracked(lens, wanted.bid) {
-                Some(wanted.bid)
+    match terms.asked {
+        Some(bid) => {
+            if is_tracked(lens, bid) {
+                Some(bid)
             } else {
                 None
             }
@@ -178,25 +179,21 @@ fn end_weights(bids: &[Bid], asked: Option<u32>) -> [u32; 64]
 }
 
 /// What the weights are to reach.
-fn end_floor(goal: &Goal, member: u32, asked: Option<u32>) -> u32
-    ensures floor { result ≡ end_floor goal.now member asked }
+fn end_floor(terms: &Terms, asked: Option<u32>) -> u32
+    ensures floor { result ≡ end_floor terms.now asked }
 {
-    let floor = goal
-        .floors
-        .as_slice()
-        .get(member as usize)
-        .map_or(0, |floor| *floor);
-    floor.min(UNREACHABLE) + asked.map_or(0, |_| DEMAND)
+    let floor = terms.floor.min(UNREACHABLE) as u32;
+    floor + asked.map_or(0, |_| DEMAND)
 }
 
-/// What the end asks of the bits: the member's floor, and the goal's bid where it is the member's and tracked.
-pub fn bids_end(problem: &Problem, member: u32, goal: &Goal, lens: &Lens) -> MaskEnd
+/// What the end asks of the bits: the floor of the terms, and the bid that they ask for, where it is tracked.
+pub fn bids_end(problem: &Problem, member: u32, terms: &Terms, lens: &Lens) -> MaskEnd
     requires member { member < length problem.now.base.members }
-    ensures end { IsBidsEnd problem.now member goal.now lens.now result }
+    ensures end { IsBidsEnd problem.now member lens.now terms.now result }
 {
-    let asked = asked_bid(goal, member, lens);
+    let asked = asked_bid(terms, lens);
     MaskEnd {
         weights: end_weights(bids_of(problem, member), asked),
-        floor: end_floor(goal, member, asked),
+        floor: end_floor(terms, asked),
     }
 }

@@ -23,6 +23,7 @@ use Rattle.label_setter.specs.declared.graph.Arc.{Arc}
 use Rattle.roster_model.specs.declared.problem.Problem.{Problem}
 use Rattle.roster_model.specs.declared.node.Decision.{Decision}
 use Rattle.roster_model.specs.declared.proof.Lens.{Lens}
+use Rattle.lens_classes.specs.declared.terms.Terms.{Terms}
 use Rattle.roster_model.specs.Spans.{first_report, pairing_span, event_span}
 use Rattle.roster_model.specs.Weights.{weight_at}
 use Rattle.line_lens.specs.declared.chart.Chart.{Chart}
@@ -93,14 +94,14 @@ open_same month day fixed busy few is = elim (cases_Bool (nat_le 365 day)) [
     shut_second : (a b c d : Bool) → b ≡ false → (a && (b && c)) ≡ (a && (b && d))
     shut_second a b c d e = ap (λ (x : Bool). a && (x && c)) e ∙ sym (ap (λ (x : Bool). a && (x && d)) e)
 
-module _ {N : ℕ} (problem : Problem) (member : ℕ) (node : List Decision) (lens : Lens) (weights : List ℤ)
+module _ {N : ℕ} (problem : Problem) (member : ℕ) (node : List Decision) (lens : Lens) (terms : Terms) (weights : List ℤ)
     (long : length weights ≡ length problem.base.pairings) (items : List ℕ) (order : IsItemOrder problem member lens items)
-    (chart : Chart N) (is : IsChart problem member node lens weights items chart) where
+    (chart : Chart N) (is : IsChart problem member node lens terms weights items chart) where
   abbrev at : ℕ → ℕ
-  at = adds problem member node lens weights long items order chart is
+  at = adds problem member node lens terms weights long items order chart is
 
   abbrev pub item_may : ℕ → Bool
-  item_may = may_visit (is_base_open problem member lens) (may_visit_item problem member node lens) (λ j. slice_index_or items j (item_count problem member lens)) (item_count problem member lens + 1)
+  item_may = may_visit (is_base_open problem member lens terms) (may_visit_item problem member node lens) (λ j. slice_index_or items j (item_count problem member lens)) (item_count problem member lens + 1)
 
   abbrev pub item_must : ℕ → Bool
   item_must j = must_visit_item problem member node lens (slice_index_or items j (item_count problem member lens))
@@ -109,18 +110,18 @@ module _ {N : ℕ} (problem : Problem) (member : ℕ) (node : List Decision) (le
   item_near = is_near (item_begins problem member lens) (item_rests problem member lens) (λ j. slice_index_or items j (item_count problem member lens)) (item_count problem member lens + 1)
 
   abbrev clear : ℕ → ℕ
-  clear = clears problem member node lens weights long items order chart is
+  clear = clears problem member node lens terms weights long items order chart is
 
   abbrev set : ℕ → ℕ
-  set = sets problem member node lens weights long items order chart is
+  set = sets problem member node lens terms weights long items order chart is
 
   busy_same : lens.days ≡ true → (t j : ℕ) → t < item_count problem member lens + 2 → j < item_count problem member lens + 2
       → chart_busy_with chart t j ≡ is_busy_with problem member lens (at t) (at j)
   busy_same on t j first second =
-      let a = placed_at problem member node lens weights long items order chart is t first in
-      let starts = begins_same problem member node lens weights long items order chart is t ∙ begins_span problem member lens (at t) in
-      let stops = of_some problem member node lens weights long items order chart is (λ p. p.ends) 0 t a.place a.here ∙ a.is_of.ends in
-      let day : chart_day chart j ≡ day_of problem member lens (at j) = ap (λ (n : ℕ). n / 1440) (begins_same problem member node lens weights long items order chart is j) in
+      let a = placed_at problem member node lens terms weights long items order chart is t first in
+      let starts = begins_same problem member node lens terms weights long items order chart is t ∙ begins_span problem member lens (at t) in
+      let stops = of_some problem member node lens terms weights long items order chart is (λ p. p.ends) 0 t a.place a.here ∙ a.is_of.ends in
+      let day : chart_day chart j ≡ day_of problem member lens (at j) = ap (λ (n : ℕ). n / 1440) (begins_same problem member node lens terms weights long items order chart is j) in
       let opens : chart_open chart (chart_day chart j) ≡ is_open_day problem member (chart_day chart j) =
       ap (λ (m : ℕ). nat_le 365 (chart_day chart j) && (nat_lt (chart_day chart j) (365 + m) && not (nat_lt (chart_day chart j - 365) 32 && bit_at chart.fixed (chart_day chart j - 365) == 1))) is.days_of_month
       ∙ open_same (month_days problem.base.rules.horizon) (chart_day chart j) chart.fixed (is_fixed_busy problem member) (days_in_month_bounds problem.base.rules.horizon.year problem.base.rules.horizon.month).0 (is.busy_days on) in
@@ -135,11 +136,11 @@ module _ {N : ℕ} (problem : Problem) (member : ℕ) (node : List Decision) (le
       → chart_pause chart t j ≡ pause_step problem member lens at t i j
   pause_same t i j first second = go lens.free30 refl
     where
-      a : PlacedAt problem member node lens weights long items order chart is t
-      a = placed_at problem member node lens weights long items order chart is t first
+      a : PlacedAt problem member node lens terms weights long items order chart is t
+      a = placed_at problem member node lens terms weights long items order chart is t first
 
-      b : PlacedAt problem member node lens weights long items order chart is j
-      b = placed_at problem member node lens weights long items order chart is j second
+      b : PlacedAt problem member node lens terms weights long items order chart is j
+      b = placed_at problem member node lens terms weights long items order chart is j second
 
       step : PauseStep
       step = record { least = of_place (λ p. p.least) 0 chart t; renew = of_place (λ p. p.own) 0 chart t; busy = of_place (λ p. p.ends) 0 chart t; free = of_place (λ p. p.free) 0 chart j }
@@ -158,15 +159,15 @@ module _ {N : ℕ} (problem : Problem) (member : ℕ) (node : List Decision) (le
       go true on =
           ap (λ (x : Bool). if x then step else none) (is.looks_at_free ∙ on)
           ∙ build _ _ _ _ _ _ _ _
-          (of_some problem member node lens weights long items order chart is (λ p. p.least) 0 t a.place a.here ∙ a.is_of.least on)
-          (of_some problem member node lens weights long items order chart is (λ p. p.own) 0 t a.place a.here ∙ a.is_of.own on)
-          (of_some problem member node lens weights long items order chart is (λ p. p.ends) 0 t a.place a.here ∙ a.is_of.ends)
-          (of_some problem member node lens weights long items order chart is (λ p. p.free) 0 j b.place b.here ∙ b.is_of.free on)
+          (of_some problem member node lens terms weights long items order chart is (λ p. p.least) 0 t a.place a.here ∙ a.is_of.least on)
+          (of_some problem member node lens terms weights long items order chart is (λ p. p.own) 0 t a.place a.here ∙ a.is_of.own on)
+          (of_some problem member node lens terms weights long items order chart is (λ p. p.ends) 0 t a.place a.here ∙ a.is_of.ends)
+          (of_some problem member node lens terms weights long items order chart is (λ p. p.free) 0 j b.place b.here ∙ b.is_of.free on)
           ∙ sym (ap (λ (x : Bool). if x then due else none) on)
       go false off = ap (λ (x : Bool). if x then step else none) (is.looks_at_free ∙ off) ∙ sym (ap (λ (x : Bool). if x then due else none) off)
 
   daily_same : (t i j : ℕ) → t < item_count problem member lens + 2 → j < item_count problem member lens + 2
-      → chart_daily chart t i j ≡ daily_step problem member lens at t i j
+      → chart_daily chart t i j ≡ daily_step problem member lens terms at t i j
   daily_same t i j first second = go lens.days refl
     where
       add : ℕ
@@ -181,7 +182,7 @@ module _ {N : ℕ} (problem : Problem) (member : ℕ) (node : List Decision) (le
         again = is_busy_with problem member lens (at t) (at t);
         keeps = day_of problem member lens (at i) == day_of problem member lens (at j);
         sets = is_busy_with problem member lens (at t) (at j);
-        cap = month_days problem.base.rules.horizon - problem.base.rules.days_off;
+        cap = month_days problem.base.rules.horizon - terms.days_off;
       }
 
       none : DailyStep
@@ -193,7 +194,7 @@ module _ {N : ℕ} (problem : Problem) (member : ℕ) (node : List Decision) (le
 
       counted : lens.days ≡ true → add ≡ added_days problem member (item_span problem member lens (at 0)) (item_span problem member lens (at t))
       counted on =
-          let same = days_same problem member node lens weights long items order chart is 0 t (placed_at problem member node lens weights long items order chart is 0 (omega arith)) (placed_at problem member node lens weights long items order chart is t first) in
+          let same = days_same problem member node lens terms weights long items order chart is 0 t (placed_at problem member node lens terms weights long items order chart is 0 (omega arith)) (placed_at problem member node lens terms weights long items order chart is t first) in
           ap (λ (s : LeastStep). s.add)
           (sym (ap (λ (x : Bool). if x then least else still) (is.looks_at_days ∙ on)) ∙ same ∙ ap (λ (x : Bool). if x then asked else still) on)
         where
@@ -201,18 +202,18 @@ module _ {N : ℕ} (problem : Problem) (member : ℕ) (node : List Decision) (le
           least = record { add = count_ones (bit_and (bit_and (of_place (λ p. p.touched) 0 chart t) (bit_not w32 chart.fixed)) (bit_not w32 (of_place (λ p. p.touched) 0 chart 0))); cap = chart.most_busy }
 
           asked : LeastStep
-          asked = record { add = added_days problem member (item_span problem member lens (at 0)) (item_span problem member lens (at t)); cap = month_days problem.base.rules.horizon - problem.base.rules.days_off }
+          asked = record { add = added_days problem member (item_span problem member lens (at 0)) (item_span problem member lens (at t)); cap = month_days problem.base.rules.horizon - terms.days_off }
 
           still : LeastStep
           still = record { add = 0; cap = 0 }
 
       day_same : (k : ℕ) → chart_day chart k ≡ day_of problem member lens (at k)
-      day_same k = ap (λ (n : ℕ). n / 1440) (begins_same problem member node lens weights long items order chart is k)
+      day_same k = ap (λ (n : ℕ). n / 1440) (begins_same problem member node lens terms weights long items order chart is k)
 
       equal_days : (a b c d : ℕ) → a ≡ b → c ≡ d → (a == c) ≡ (b == d)
       equal_days a b c d p q = rw (p, q) refl
 
-      go : (c : Bool) → lens.days ≡ c → chart_daily chart t i j ≡ daily_step problem member lens at t i j
+      go : (c : Bool) → lens.days ≡ c → chart_daily chart t i j ≡ daily_step problem member lens terms at t i j
       go true on =
           ap (λ (x : Bool). if x then step else none) (is.looks_at_days ∙ on)
           ∙ build _ _ _ _ _ _ _ _ _ _ (counted on) (busy_same on t t first first) (equal_days _ _ _ _ (day_same i) (day_same j)) (busy_same on t j first second) (is.most_days on)
@@ -223,8 +224,8 @@ module _ {N : ℕ} (problem : Problem) (member : ℕ) (node : List Decision) (le
       → chart_nights chart t j ≡ nights_step problem member lens at t i j
   nights_same t i j first second = go lens.free30 refl
     where
-      a : PlacedAt problem member node lens weights long items order chart is t
-      a = placed_at problem member node lens weights long items order chart is t first
+      a : PlacedAt problem member node lens terms weights long items order chart is t
+      a = placed_at problem member node lens terms weights long items order chart is t first
 
       step : NightMarks → ℕ → ℕ → NightStep
       step marks ends begins = record { lead = marks.lead; reset = marks.reset; until = ends; free = begins - 1800; cap = 3 }
@@ -239,27 +240,27 @@ module _ {N : ℕ} (problem : Problem) (member : ℕ) (node : List Decision) (le
       go true on =
           ap (λ (x : Bool). if x then step (of_place (λ p. p.nights) no_marks chart t) (of_place (λ p. p.ends) 0 chart t) (of_place (λ p. p.begins) 0 chart j) else none) (is.looks_at_free ∙ on)
           ∙ same _ _ _ _ _ _
-          (of_some problem member node lens weights long items order chart is (λ p. p.nights) no_marks t a.place a.here ∙ a.is_of.nights on)
-          (of_some problem member node lens weights long items order chart is (λ p. p.ends) 0 t a.place a.here ∙ a.is_of.ends)
-          (begins_same problem member node lens weights long items order chart is j)
+          (of_some problem member node lens terms weights long items order chart is (λ p. p.nights) no_marks t a.place a.here ∙ a.is_of.nights on)
+          (of_some problem member node lens terms weights long items order chart is (λ p. p.ends) 0 t a.place a.here ∙ a.is_of.ends)
+          (begins_same problem member node lens terms weights long items order chart is j)
           ∙ sym (ap (λ (x : Bool). if x then step (night_marks problem member lens (at t)) (item_span problem member lens (at t)).stop (item_begins problem member lens (at j)) else none) on)
       go false off =
           ap (λ (x : Bool). if x then step (of_place (λ p. p.nights) no_marks chart t) (of_place (λ p. p.ends) 0 chart t) (of_place (λ p. p.begins) 0 chart j) else none) (is.looks_at_free ∙ off)
           ∙ sym (ap (λ (x : Bool). if x then step (night_marks problem member lens (at t)) (item_span problem member lens (at t)).stop (item_begins problem member lens (at j)) else none) off)
 
   take_same : (t i j : ℕ) → t < item_count problem member lens + 2 → j < item_count problem member lens + 2
-      → chart_take chart t i j ≡ take_step {N = N} problem member lens at clear set t i j
+      → chart_take chart t i j ≡ take_step {N = N} problem member lens terms at clear set t i j
   take_same t i j first second =
-      let a = placed_at problem member node lens weights long items order chart is t first in
+      let a = placed_at problem member node lens terms weights long items order chart is t first in
       whole _ _ _ _ _ _ _ _ _ _ _ _
-      (credit _ _ _ _ _ _ (of_some problem member node lens weights long items order chart is (λ p. p.down) 0 t a.place a.here ∙ a.is_of.down)
-      (of_some problem member node lens weights long items order chart is (λ p. p.up) 0 t a.place a.here ∙ a.is_of.up) is.most_credit)
-      (of_some problem member node lens weights long items order chart is (λ p. p.bids) no_bids t a.place a.here
-      ∙ bids a.place _ _ (sym (of_some problem member node lens weights long items order chart is (λ p. p.bids.clear) 0 t a.place a.here)) (sym (of_some problem member node lens weights long items order chart is (λ p. p.bids.set) 0 t a.place a.here)))
+      (credit _ _ _ _ _ _ (of_some problem member node lens terms weights long items order chart is (λ p. p.down) 0 t a.place a.here ∙ a.is_of.down)
+      (of_some problem member node lens terms weights long items order chart is (λ p. p.up) 0 t a.place a.here ∙ a.is_of.up) is.most_credit)
+      (of_some problem member node lens terms weights long items order chart is (λ p. p.bids) no_bids t a.place a.here
+      ∙ bids a.place _ _ (sym (of_some problem member node lens terms weights long items order chart is (λ p. p.bids.clear) 0 t a.place a.here)) (sym (of_some problem member node lens terms weights long items order chart is (λ p. p.bids.set) 0 t a.place a.here)))
       (pause_same t i j first second)
       (daily_same t i j first second)
       (nights_same t i j first second)
-      (usage _ _ _ _ (of_some problem member node lens weights long items order chart is (λ p. p.amounts) (spread N (λ w. 0) []) t a.place a.here ∙ a.is_of.amounts) is.limits)
+      (usage _ _ _ _ (of_some problem member node lens terms weights long items order chart is (λ p. p.amounts) (spread N (λ w. 0) []) t a.place a.here ∙ a.is_of.amounts) is.limits)
     where
       whole : (a b : SpanStep) (c d : MaskStep) (e f : PauseStep) (g h : DailyStep) (m n : NightStep) (k l : UsageStep N) → a ≡ b → c ≡ d → e ≡ f → g ≡ h → m ≡ n → k ≡ l
           → ◌≡◌ {A = TakeStepOf N} (a, (c, (e, (g, (m, k))))) (b, (d, (f, (h, (n, l)))))
@@ -277,21 +278,21 @@ module _ {N : ℕ} (problem : Problem) (member : ℕ) (node : List Decision) (le
   pub takes_same : (arcs : List (Arc (TakeStepOf N))) (taken : List ℕ)
       → AreTakeArcs (passes_by (chart_may chart) (chart_must chart)) (takes_by (chart_may chart) (chart_must chart) (chart_near chart)) (λ t. chart_gain chart 0 t) (chart_take chart) arcs taken
       → AreTakeArcs (passes_by item_may item_must) (takes_by item_may item_must item_near) (λ t. weight_at weights (slice_index_or items t (item_count problem member lens)))
-      (take_step {N = N} problem member lens (λ j. slice_index_or items j (item_count problem member lens)) (clears problem member node lens weights long items order chart is) (sets problem member node lens weights long items order chart is)) arcs taken
+      (take_step {N = N} problem member lens terms (λ j. slice_index_or items j (item_count problem member lens)) (clears problem member node lens terms weights long items order chart is) (sets problem member node lens terms weights long items order chart is)) arcs taken
   takes_same arcs taken are =
       moved (chart_may chart) item_may (chart_must chart) item_must (chart_near chart) item_near
-      (fun_ext (may_same problem member node lens weights long items order chart is))
-      (fun_ext (must_same problem member node lens weights long items order chart is))
-      (fun_ext (λ i. fun_ext (near_same problem member node lens weights long items order chart is i)))
+      (fun_ext (may_same problem member node lens terms weights long items order chart is))
+      (fun_ext (must_same problem member node lens terms weights long items order chart is))
+      (fun_ext (λ i. fun_ext (near_same problem member node lens terms weights long items order chart is i)))
       (record {
         long = are.long;
         kinds = are.kinds;
-        gains = λ number arc here. are.gains number arc here ∙ gain_same problem member node lens weights long items order chart is 0 (slice_index_or taken number 0);
+        gains = λ number arc here. are.gains number arc here ∙ gain_same problem member node lens terms weights long items order chart is 0 (slice_index_or taken number 0);
         steps = λ number arc here.
             let b = taken_before (chart_may chart) (chart_must chart) (chart_near chart) arc.from arc.to (slice_index_or taken number 0) (are.kinds number arc here) in
             let lt = b.0 in
             let l = is.are.long in
-            let c = items_long problem member node lens weights long items order chart is in
+            let c = items_long problem member node lens terms weights long items order chart is in
             let within = may_within chart (omega arith) arc.to b.1 in
             are.steps number arc here ∙ take_same (slice_index_or taken number 0) arc.from arc.to (omega arith) (omega arith);
         passed = are.passed;

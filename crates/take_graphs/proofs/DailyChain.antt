@@ -17,6 +17,7 @@ use Rattle.label_lattice.specs.Least.{least_extend}
 use Rattle.label_lattice.specs.Daily.{daily_extend, daily_total}
 use Rattle.roster_model.specs.declared.problem.Problem.{Problem}
 use Rattle.roster_model.specs.declared.proof.Lens.{Lens}
+use Rattle.lens_classes.specs.declared.terms.Terms.{Terms}
 use Rattle.roster_model.specs.Spans.{pairing_span, event_span}
 use Rattle.line_items.specs.BusyDays.{is_fixed_busy, month_count}
 use Rattle.line_items.specs.Items.{item_count, item_begins, item_rests, item_span}
@@ -116,7 +117,7 @@ count_split f g start n =
     apart true false t = refl
     apart false b t = refl
 
-module _ (problem : Problem) (member : ℕ) (lens : Lens) (adds : ℕ → ℕ) (sink : ℕ)
+module _ (problem : Problem) (member : ℕ) (lens : Lens) (terms : Terms) (adds : ℕ → ℕ) (sink : ℕ)
     (sorted : IsSorted (item_count problem member lens) sink adds (item_begins problem member lens) (item_rests problem member lens))
     (placed : IsPlaced problem member lens adds sink) where
   abbrev begin_at : ℕ → ℕ
@@ -135,7 +136,7 @@ module _ (problem : Problem) (member : ℕ) (lens : Lens) (adds : ℕ → ℕ) (
   days = month_days problem.base.rules.horizon
 
   abbrev most : ℕ
-  most = month_days problem.base.rules.horizon - problem.base.rules.days_off
+  most = month_days problem.base.rules.horizon - terms.days_off
 
   abbrev busy_with : ℕ → ℕ → Bool
   busy_with t i = is_busy_with problem member lens (adds t) (adds i)
@@ -198,13 +199,13 @@ module _ (problem : Problem) (member : ℕ) (lens : Lens) (adds : ℕ → ℕ) (
     abbrev due : ℕ → ℕ → ℕ → DailyStep
     due t i j = record { add = added 0 t; again = busy_with t t; keeps = day_at i == day_at j; sets = busy_with t j; cap = most }
 
-    step_is : (t i j : ℕ) → daily_step problem member lens adds t i j ≡ due t i j
+    step_is : (t i j : ℕ) → daily_step problem member lens terms adds t i j ≡ due t i j
     step_is t i j = ap (λ (b : Bool). if b then due t i j else none) on
       where
         none : DailyStep
         none = record { add = 0; again = false; keeps = false; sets = false; cap = 0 }
 
-    other_is : (t i : ℕ) → day_step problem member lens adds t i ≡ record { add = added t i; cap = most }
+    other_is : (t i : ℕ) → day_step problem member lens terms adds t i ≡ record { add = added t i; cap = most }
     other_is t i = ap (λ (b : Bool). if b then asked else none) on
       where
         asked : LeastStep
@@ -267,7 +268,7 @@ module _ (problem : Problem) (member : ℕ) (lens : Lens) (adds : ℕ → ℕ) (
 
     passing : (may must : ℕ → Bool) (t i j : ℕ) (d : Daily) (v : Least)
         → IsAt may must (is_near (item_begins problem member lens) (item_rests problem member lens) adds sink) sink t i
-        → i < j → j ≤ sink → IsCounted t i d v → Comes (λ s. IsCounted t j s v) (daily_extend d (daily_step problem member lens adds 0 i j))
+        → i < j → j ≤ sink → IsCounted t i d v → Comes (λ s. IsCounted t j s v) (daily_extend d (daily_step problem member lens terms adds 0 i j))
     passing may must t i j d v at lt small rel =
         let none : busy_with 0 0 ≡ false = source_busy 0 in
         let total : daily_total d (due 0 i j) ≡ d.count = counted d.count (added 0 0) d.today (busy_with 0 0) nothing_added none in
@@ -374,7 +375,7 @@ module _ (problem : Problem) (member : ℕ) (lens : Lens) (adds : ℕ → ℕ) (
 
     taking : (may must : ℕ → Bool) (t i j : ℕ) (d : Daily) (v : Least) → 0 < i → i < sink → i < j → j ≤ sink
         → IsAt may must (is_near (item_begins problem member lens) (item_rests problem member lens) adds sink) sink t i
-        → IsCounted t i d v → AreAlike (λ s p. IsCounted i j s p) (daily_extend d (daily_step problem member lens adds i i j)) (least_extend v (day_step problem member lens adds t i))
+        → IsCounted t i d v → AreAlike (λ s p. IsCounted i j s p) (daily_extend d (daily_step problem member lens terms adds i i j)) (least_extend v (day_step problem member lens terms adds t i))
     taking may must t i j d v positive inner to_j small at rel =
         let before = at.lt positive in
         let split = days_split may must t i positive inner before (at.fits i (omega arith) positive (omega arith)) in
@@ -434,7 +435,7 @@ module _ (problem : Problem) (member : ℕ) (lens : Lens) (adds : ℕ → ℕ) (
         unfit : (a b : ℕ) → nat_le a b ≡ false → b < a
         unfit a b h = grind (arith, nat_tests)
 
-    ending : (t : ℕ) (d : Daily) (v : Least) → IsCounted t sink d v → Comes (λ p. Unit {0}) (least_extend v (day_step problem member lens adds t sink))
+    ending : (t : ℕ) (d : Daily) (v : Least) → IsCounted t sink d v → Comes (λ p. Unit {0}) (least_extend v (day_step problem member lens terms adds t sink))
     ending t d v rel =
         let none = nothing_last t in
         let within = rel.within in
@@ -442,7 +443,7 @@ module _ (problem : Problem) (member : ℕ) (lens : Lens) (adds : ℕ → ℕ) (
 
     -- a start above the cap fails at once on both sides
     pub too_many : (d : Daily) (v : Least) (i j t l : ℕ) → d.today ≡ false → d.count ≡ v.value → most < v.value
-        → (daily_extend d (daily_step problem member lens adds t i j) ≡ None) × (least_extend v (day_step problem member lens adds 0 l) ≡ None)
+        → (daily_extend d (daily_step problem member lens terms adds t i j) ≡ None) × (least_extend v (day_step problem member lens terms adds 0 l) ≡ None)
     too_many d v i j t l today count over = (
       ap (daily_extend d) (step_is t i j) ∙ daily_fails d (due t i j) (daily_total d (due t i j)) refl (large d.count (added 0 t) d.today (busy_with t t) today refl),
       ap (least_extend v) (other_is 0 l) ∙ least_fails v.value (added 0 l) most (omega (arith, over)),
@@ -460,12 +461,12 @@ module _ (problem : Problem) (member : ℕ) (lens : Lens) (adds : ℕ → ℕ) (
         → must 0 ≡ false
         → (count : ℕ) (chain : List ℕ) → IsPath arcs 0 chain sink
         → AreAlike (λ s p. Unit {0})
-        (run daily_extend (record { count = count; today = false }) (map (λ number. daily_step problem member lens adds (slice_index_or taken number 0) (option_map_or (λ (arc : Arc S). arc.from) (slice_get arcs number) 0) (option_map_or (λ (arc : Arc S). arc.to) (slice_get arcs number) 0)) chain))
-        (run least_extend (record { value = count }) (along (day_step problem member lens adds) 0 (stops_by sink (taken_by taken chain))))
+        (run daily_extend (record { count = count; today = false }) (map (λ number. daily_step problem member lens terms adds (slice_index_or taken number 0) (option_map_or (λ (arc : Arc S). arc.from) (slice_get arcs number) 0) (option_map_or (λ (arc : Arc S). arc.to) (slice_get arcs number) 0)) chain))
+        (run least_extend (record { value = count }) (along (day_step problem member lens terms adds) 0 (stops_by sink (taken_by taken chain))))
     days_alike {S} may must gain step arcs taken are some nears starts free_source count chain path = elim (cases_Bool (nat_le count most)) [
       | inl fits ↦
           run_alike may must (is_near (item_begins problem member lens) (item_rests problem member lens) adds sink) sink gain step arcs taken are some nears starts free_source
-          (daily_step problem member lens adds) daily_extend least_extend (day_step problem member lens adds) IsCounted
+          (daily_step problem member lens terms adds) daily_extend least_extend (day_step problem member lens terms adds) IsCounted
           (λ t i j r q at at_to lt small rel. passing may must t i j r q at lt small rel)
           (λ t i j r q positive inner to_j small at on_at rel. taking may must t i j r q positive inner to_j small at rel)
           (λ t r q lt rel. ending t r q rel)
@@ -489,8 +490,8 @@ module _ (problem : Problem) (member : ℕ) (lens : Lens) (adds : ℕ → ℕ) (
 
         refused : (chain : List ℕ) → IsPath arcs 0 chain sink → most < count
             → AreAlike (λ s p. Unit {0})
-            (run daily_extend (record { count = count; today = false }) (map (λ number. daily_step problem member lens adds (slice_index_or taken number 0) (option_map_or (λ (arc : Arc S). arc.from) (slice_get arcs number) 0) (option_map_or (λ (arc : Arc S). arc.to) (slice_get arcs number) 0)) chain))
-            (run least_extend (record { value = count }) (along (day_step problem member lens adds) 0 (stops_by sink (taken_by taken chain))))
+            (run daily_extend (record { count = count; today = false }) (map (λ number. daily_step problem member lens terms adds (slice_index_or taken number 0) (option_map_or (λ (arc : Arc S). arc.from) (slice_get arcs number) 0) (option_map_or (λ (arc : Arc S). arc.to) (slice_get arcs number) 0)) chain))
+            (run least_extend (record { value = count }) (along (day_step problem member lens terms adds) 0 (stops_by sink (taken_by taken chain))))
         refused [] path over = absurd (omega arith)
         refused (number ∷ chain) path over =
             let js = stops_by sink (taken_by taken (number ∷ chain)) in
@@ -498,8 +499,8 @@ module _ (problem : Problem) (member : ℕ) (lens : Lens) (adds : ℕ → ℕ) (
             let no = too_many (record { count = count; today = false }) (record { value = count })
             (option_map_or (λ (arc : Arc S). arc.from) (slice_get arcs number) 0) (option_map_or (λ (arc : Arc S). arc.to) (slice_get arcs number) 0) (slice_index_or taken number 0) first.first refl refl over in
             inl (
-              first_refused (daily_extend (record { count = count; today = false }) (daily_step problem member lens adds (slice_index_or taken number 0) (option_map_or (λ (arc : Arc S). arc.from) (slice_get arcs number) 0) (option_map_or (λ (arc : Arc S). arc.to) (slice_get arcs number) 0)))
-                  (λ q. run daily_extend q (map (λ number. daily_step problem member lens adds (slice_index_or taken number 0) (option_map_or (λ (arc : Arc S). arc.from) (slice_get arcs number) 0) (option_map_or (λ (arc : Arc S). arc.to) (slice_get arcs number) 0)) chain)) no.0,
-              ap (λ (ks : List ℕ). run least_extend (record { value = count }) (along (day_step problem member lens adds) 0 ks)) first.is
-                  ∙ other_refused (least_extend (record { value = count }) (day_step problem member lens adds 0 first.first)) (λ q. run least_extend q (along (day_step problem member lens adds) first.first first.rest)) no.1,
+              first_refused (daily_extend (record { count = count; today = false }) (daily_step problem member lens terms adds (slice_index_or taken number 0) (option_map_or (λ (arc : Arc S). arc.from) (slice_get arcs number) 0) (option_map_or (λ (arc : Arc S). arc.to) (slice_get arcs number) 0)))
+                  (λ q. run daily_extend q (map (λ number. daily_step problem member lens terms adds (slice_index_or taken number 0) (option_map_or (λ (arc : Arc S). arc.from) (slice_get arcs number) 0) (option_map_or (λ (arc : Arc S). arc.to) (slice_get arcs number) 0)) chain)) no.0,
+              ap (λ (ks : List ℕ). run least_extend (record { value = count }) (along (day_step problem member lens terms adds) 0 ks)) first.is
+                  ∙ other_refused (least_extend (record { value = count }) (day_step problem member lens terms adds 0 first.first)) (λ q. run least_extend q (along (day_step problem member lens terms adds) first.first first.rest)) no.1,
             )

@@ -1,5 +1,5 @@
 -- The nights in a row along what a chain takes are those along its stops.
-use Rattle.std.proofs.Common.{◌≡◌, ℕ, ℤ, zero, suc, ◌+◌, ◌-◌, min, ◌<◌, ◌≤◌, Bool, true, false, not, ◌&&◌, ◌||◌, ◌==◌, List, [], ◌∷◌, Option, Some, None, length, refl, ap, sym, ◌∙◌, subst, arith, inl, inr, ◌⊎◌}
+use Rattle.std.proofs.Common.{◌≡◌, ℕ, ℤ, ◌+◌, ◌-◌, ◌<◌, ◌≤◌, Bool, true, false, ◌||◌, ◌==◌, List, [], ◌∷◌, Option, Some, None, length, refl, ap, sym, ◌∙◌, subst, arith, inl, inr}
 use Rattle.std.specs.Prelude.{slice_get, slice_index_or, map, nat_le, nat_lt, unwrap_or, if◌then◌else◌}
 use Rattle.std.specs.List.{AllByRecursion}
 use Rattle.std.specs.Option.{option_map_or}
@@ -15,7 +15,6 @@ use Rattle.label_setter.specs.declared.graph.Arc.{Arc}
 use Rattle.label_lattice.specs.declared.night_rows.Nights.{Nights}
 use Rattle.label_lattice.specs.declared.night_rows.NightStep.{NightStep}
 use Rattle.label_lattice.specs.declared.runs.Run.{Run}
-use Rattle.label_lattice.specs.declared.runs.RunStep.{RunStep}
 use Rattle.label_lattice.specs.NightRow.{nights_extend, nights_settled, until_then}
 use Rattle.label_lattice.specs.Run.{run_extend}
 use Rattle.roster_model.specs.declared.problem.Problem.{Problem}
@@ -24,7 +23,7 @@ use Rattle.roster_model.specs.Spans.{duty_event, first_report, last_release, pai
 use Rattle.roster_model.specs.Timelines.{fixed_of}
 use Rattle.line_items.specs.Clear.{duties_of}
 use Rattle.line_items.specs.Items.{visited_flights, item_count, item_begins, item_rests, item_span}
-use Rattle.line_items.specs.NightRows.{nights_after, stays_short, item_flights, lead_of, reset_of, alone_of, past_row, past_until, night_until}
+use Rattle.line_items.specs.NightRows.{nights_after, stays_short, item_flights, lead_of, reset_of, past_row, past_until, night_until}
 use Rattle.take_graphs.specs.Takes.{passes_by, takes_by, AreTakeArcs}
 use Rattle.take_graphs.proofs.Alike.{AreAlike, Comes}
 use Rattle.take_graphs.proofs.Alike.{run_alike}
@@ -39,7 +38,7 @@ use Rattle.take_graphs.proofs.ItemWork.{work}
 use Rattle.line_items.proofs.NightItems.{soon_step, alone_step, run_to, soon_run, alone_run, row_over, none_before, short_row}
 use Rattle.line_items.proofs.SoundMonth.{sound_month}
 use Rattle.take_graphs.proofs.TakenPlaces.{taken_by, stops_by}
-use Rattle.take_graphs.proofs.Taking.{IsPath, IsAt}
+use Rattle.take_graphs.proofs.Taking.{IsPath}
 use Rattle.take_graphs.proofs.Taking.{at_source}
 use Rattle.line_items.proofs.Visited.{IsPlaced}
 use Rattle.line_items.proofs.Visits.{IsSorted}

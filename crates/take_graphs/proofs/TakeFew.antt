@@ -9,6 +9,7 @@ use Rattle.label_setter.specs.declared.graph.Arc.{Arc}
 use Rattle.label_setter.specs.Chains.{Reached, FewApart, Leads, source}
 use Rattle.roster_model.specs.declared.problem.Problem.{Problem}
 use Rattle.roster_model.specs.declared.proof.Lens.{Lens}
+use Rattle.lens_classes.specs.declared.terms.Terms.{Terms}
 use Rattle.roster_model.specs.declared.proof.Window.{Window}
 use Rattle.roster_model.specs.Lenses.{floor_to, ceil_to}
 use Rattle.roster_model.specs.Legality.{high_of}
@@ -138,7 +139,7 @@ next_hours : (fixed high hours q d : ℕ) → d ≡ 60 * q → (fixed + 60 * hou
 next_hours fixed high hours q d e le = omega arith
 
 abbrev hour_lens : ℕ → Lens
-hour_lens tracked = record { grain = 60; tracked = tracked; free30 = false; days = false; windows = [] }
+hour_lens tracked = record { grain = 60; tracked = tracked; free30 = false; days = false; whole = false; windows = [] }
 
 -- what one step leaves, and the rest of the walk
 step_on : {R S : Type 0} (extend : R → S → Option R) (r q : R) (step : S) (steps : List S) (b : R)
@@ -157,24 +158,24 @@ more_at i j k e sink lt le ki pos one none = elim (cases_Bool (nat_lt 0 i)) [
   | inr first ↦ let z = none (grind (arith, nat_tests)) in (omega arith, omega arith)
 ]
 
-module _ {N : ℕ} (problem : Problem) (member tracked : ℕ) (adds clear set : ℕ → ℕ) (sink : ℕ) (may must : ℕ → Bool) (near : ℕ → ℕ → Bool) (gain : ℕ → ℤ) (arcs : List (Arc (TakeStepOf N))) (taken : List ℕ)
+module _ {N : ℕ} (problem : Problem) (member tracked : ℕ) (terms : Terms) (adds clear set : ℕ → ℕ) (sink : ℕ) (may must : ℕ → Bool) (near : ℕ → ℕ → Bool) (gain : ℕ → ℤ) (arcs : List (Arc (TakeStepOf N))) (taken : List ℕ)
     (fixed : ℕ) (base : Window → ℕ)
     (inside : (j : ℕ) → may j ≡ true → j ≤ sink)
     (few_places : sink ≤ 601) (source_adds : length problem.base.pairings ≤ adds 0)
-    (set_small : (j : ℕ) → set j < 256) (fixed_small : fixed ≤ 720000) (high_small : high_of problem member ≤ 12000)
-    (are : AreTakeArcs (passes_by may must) (takes_by may must near) gain (take_step {N = N} problem member (hour_lens tracked) adds clear set) arcs taken) where
+    (set_small : (j : ℕ) → set j < 256) (fixed_small : fixed ≤ 720000) (high_small : terms.high ≤ 12000)
+    (are : AreTakeArcs (passes_by may must) (takes_by may must near) gain (take_step {N = N} problem member (hour_lens tracked) terms adds clear set) arcs taken) where
   abbrev steps : ℕ → ℕ → ℕ → TakeStepOf N
-  steps = take_step {N = N} problem member (hour_lens tracked) adds clear set
+  steps = take_step {N = N} problem member (hour_lens tracked) terms adds clear set
 
   abbrev label_at : ℕ → ℕ → ℕ → TakeOf N
   label_at = few_label (spread N base [])
 
   -- along a chain the label stays one of these
   few_path : (i hours more bits : ℕ) (chain : List ℕ) (place : ℕ) (b : TakeOf N) → IsPath arcs i chain place → i ≤ sink
-      → more ≤ i → (0 < i → more < i) → 60 * hours ≤ high_of problem member → bits < 256
+      → more ≤ i → (0 < i → more < i) → 60 * hours ≤ terms.high → bits < 256
       → run take_extend (label_at (fixed + 60 * hours) (fixed + 60 * (hours + more)) bits) (steps_by steps arcs taken chain) ≡ Some b
       → 0 < sink
-      → IsFewLabel (spread N base []) fixed sink (high_of problem member) b
+      → IsFewLabel (spread N base []) fixed sink (terms.high) b
   few_path i hours more bits [] place b path small_i mi ms hh small e has = record {
     hours = hours;
     more = more;
@@ -203,15 +204,15 @@ module _ {N : ℕ} (problem : Problem) (member tracked : ℕ) (adds clear set : 
       go t (option_map_or (λ (arc : Arc (TakeStepOf N)). arc.from) (slice_get arcs number) 0) (option_map_or (λ (arc : Arc (TakeStepOf N)). arc.to) (slice_get arcs number) 0) r room le (λ h m bs x y z u v. few_path arc.to h m bs chain place b path.3 le x y z u v has) e
     where
       go : (t v w : ℕ) (r : IsRounded (slice_get problem.base.pairings (adds t))) {j : ℕ} → (more + r.more ≤ j) × (more + r.more < j) → j ≤ sink
-          → ((h m bs : ℕ) → m ≤ j → (0 < j → m < j) → 60 * h ≤ high_of problem member → bs < 256
+          → ((h m bs : ℕ) → m ≤ j → (0 < j → m < j) → 60 * h ≤ terms.high → bs < 256
           → run take_extend (label_at (fixed + 60 * h) (fixed + 60 * (h + m)) bs) (steps_by steps arcs taken chain) ≡ Some b
-          → IsFewLabel (spread N base []) fixed sink (high_of problem member) b)
+          → IsFewLabel (spread N base []) fixed sink (terms.high) b)
           → run take_extend (label_at (fixed + 60 * hours) (fixed + 60 * (hours + more)) bits) (steps t v w ∷ steps_by steps arcs taken chain) ≡ Some b
-          → IsFewLabel (spread N base []) fixed sink (high_of problem member) b
+          → IsFewLabel (spread N base []) fixed sink (terms.high) b
       go t v w r room j_small rest e =
           let d = credit_at problem (floor_to 60) adds t in
           let u = credit_at problem (ceil_to 60) adds t in
-          let high = high_of problem member in
+          let high = terms.high in
           let amounts = spread N (window_minutes (item_events problem member (hour_lens tracked) (adds t))) [] in
           let caps = spread N (λ w. kind_limit w.kind) [] in
           elim (cases_Bool (nat_le ((fixed + 60 * hours) + d) high)) [
@@ -317,38 +318,46 @@ few_by_hours {N} extend start arcs counters fixed sink high few =
         (same_parts sink f.bits g.bits f.more g.more f.hours g.hours f.bits_few g.bits_few f.more_few g.more_few
         (sym (code_is counters fixed sink high a f) ∙ same ∙ code_is counters fixed sink high b g))
 
-same_lens : (lens : Lens) → lens.grain ≡ 60 → lens.free30 ≡ false → lens.days ≡ false → lens.windows ≡ [] → hour_lens lens.tracked ≡ lens
-same_lens lens g f d w = go lens.grain lens.tracked lens.free30 lens.days lens.windows g f d w
+same_lens : (lens : Lens) → lens.grain ≡ 60 → lens.free30 ≡ false → lens.days ≡ false → lens.whole ≡ false → lens.windows ≡ [] → hour_lens lens.tracked ≡ lens
+same_lens lens g f d p w = go lens.grain lens.tracked lens.free30 lens.days lens.whole lens.windows g f d p w
   where
-    go : (grain tracked : ℕ) (free days : Bool) (windows : List Window) → grain ≡ 60 → free ≡ false → days ≡ false → windows ≡ []
-        → ◌≡◌ {A = Lens} (hour_lens tracked) (record { grain = grain; tracked = tracked; free30 = free; days = days; windows = windows })
-    go grain tracked free days windows g f d w = rw (g, f, d, w) refl
+    go : (grain tracked : ℕ) (free days whole : Bool) (windows : List Window) → grain ≡ 60 → free ≡ false → days ≡ false → whole ≡ false → windows ≡ []
+        → ◌≡◌ {A = Lens} (hour_lens tracked) (record { grain = grain; tracked = tracked; free30 = free; days = days; whole = whole; windows = windows })
+    go grain tracked free days whole windows g f d p w = rw (g, f, d, p, w) refl
 
-pub few_hour : {N : ℕ} (problem : Problem) (member : ℕ) (lens : Lens) (adds clear set : ℕ → ℕ) (sink : ℕ) (may must : ℕ → Bool) (near : ℕ → ℕ → Bool) (gain : ℕ → ℤ) (bits : ℕ) (arcs : List (Arc (TakeStepOf N))) (taken : List ℕ)
+-- a greater bound bounds too
+wider_bound : {R S : Type 0} (below : R → R → Bool) (extend : R → S → Option R) (start : R) (arcs : List (Arc S)) (n most : ℕ) → n ≤ most → FewApart below extend start arcs n → FewApart below extend start arcs most
+wider_bound below extend start arcs n most le few place labels reached apart = let short = few place labels reached apart in omega (arith, le, short)
+
+higher : (sink low high : ℕ) → low ≤ high → 256 * sink * (low / 60 + 1) ≤ 256 * sink * (high / 60 + 1)
+higher sink low high le = mul-le-mul_left (256 * sink) (let h : low / 60 + 1 ≤ high / 60 + 1 = omega arith in h)
+
+pub few_hour : {N : ℕ} (problem : Problem) (member : ℕ) (lens : Lens) (terms : Terms) (adds clear set : ℕ → ℕ) (sink : ℕ) (may must : ℕ → Bool) (near : ℕ → ℕ → Bool) (gain : ℕ → ℤ) (bits : ℕ) (arcs : List (Arc (TakeStepOf N))) (taken : List ℕ)
     → IsHourLens lens → IsPlaced problem member lens adds sink
     → ((j : ℕ) → may j ≡ true → j ≤ sink)
     → ((j : ℕ) → set j < 256) → bits < 256
-    → sum_by (λ (e : Event). e.credit) (fixed_of problem member) ≤ 60 * 12000 → high_of problem member ≤ 12000 → length problem.base.pairings ≤ 600
-    → AreTakeArcs (passes_by may must) (takes_by may must near) gain (take_step {N = N} problem member lens adds clear set) arcs taken
+    → sum_by (λ (e : Event). e.credit) (fixed_of problem member) ≤ 60 * 12000 → terms.high ≤ high_of problem member → high_of problem member ≤ 12000 → length problem.base.pairings ≤ 600
+    → AreTakeArcs (passes_by may must) (takes_by may must near) gain (take_step {N = N} problem member lens terms adds clear set) arcs taken
     → FewApart take_below take_extend (take_start problem member lens bits) arcs (256 * (length problem.base.pairings + 1) * (high_of problem member / 60 + 1))
-few_hour {N} problem member lens adds clear set sink may must near gain bits arcs taken hour placed inside set_small small fixed_small high_small few are =
-    let is = same_lens lens hour.grain hour.free30 hour.days hour.windows in
+few_hour {N} problem member lens terms adds clear set sink may must near gain bits arcs taken hour placed inside set_small small fixed_small fits high_small few are =
+    let is = same_lens lens hour.grain hour.free30 hour.days hour.whole hour.windows in
     let count : item_count problem member lens ≡ length problem.base.pairings = rw hour.free30 (omega arith) in
     let size : sink ≡ length problem.base.pairings + 1 = placed.size ∙ ap (λ n. n + 1) count in
     let first : adds 0 ≡ length problem.base.pairings = placed.source ∙ count in
-    let are_hours : AreTakeArcs (passes_by may must) (takes_by may must near) gain (take_step {N = N} problem member (hour_lens lens.tracked) adds clear set) arcs taken =
-    subst (λ (l : Lens). AreTakeArcs (passes_by may must) (takes_by may must near) gain (take_step {N = N} problem member l adds clear set) arcs taken) (sym is) are in
+    let are_hours : AreTakeArcs (passes_by may must) (takes_by may must near) gain (take_step {N = N} problem member (hour_lens lens.tracked) terms adds clear set) arcs taken =
+    subst (λ (l : Lens). AreTakeArcs (passes_by may must) (takes_by may must near) gain (take_step {N = N} problem member l terms adds clear set) arcs taken) (sym is) are in
     let fixed = sum_by (λ (e : Event). e.credit) (fixed_of problem member) in
     let start = take_start {N = N} problem member (hour_lens lens.tracked) bits in
     let bound : FewApart take_below take_extend (take_start problem member (hour_lens lens.tracked) bits) arcs (256 * sink * (high_of problem member / 60 + 1)) =
-    few_by_hours take_extend start arcs (base_usage N problem member (hour_lens lens.tracked)) fixed sink (high_of problem member)
+    wider_bound take_below take_extend start arcs (256 * sink * (terms.high / 60 + 1)) (256 * sink * (high_of problem member / 60 + 1)) (higher sink terms.high (high_of problem member) fits)
+    (few_by_hours take_extend start arcs (base_usage N problem member (hour_lens lens.tracked)) fixed sink terms.high
     (λ a chain leads.
     let l = led are_hours (source start) chain a leads in
-    few_path {N = N} problem member lens.tracked adds clear set sink may must near gain arcs taken fixed (window_minutes (base_of problem member)) inside (omega arith) (omega arith)
-    set_small fixed_small high_small are_hours 0 0 0 bits chain a.place a.resource l.path (omega arith) (omega arith) (λ positive. absurd (omega arith)) (omega arith) small
+    few_path {N = N} problem member lens.tracked terms adds clear set sink may must near gain arcs taken fixed (window_minutes (base_of problem member)) inside (omega arith) (omega arith)
+    set_small fixed_small (omega arith) are_hours 0 0 0 bits chain a.place a.resource l.path (omega arith) (omega arith) (λ positive. absurd (omega arith)) (omega arith) small
     (subst (λ (x : ℕ). run take_extend (few_label (base_usage N problem member (hour_lens lens.tracked)) x x bits)
-    (steps_by (take_step {N = N} problem member (hour_lens lens.tracked) adds clear set) arcs taken chain) ≡ Some a.resource)
-    (no_more fixed) l.runs) (omega arith)) in
+    (steps_by (take_step {N = N} problem member (hour_lens lens.tracked) terms adds clear set) arcs taken chain) ≡ Some a.resource)
+    (no_more fixed) l.runs) (omega arith))) in
     subst (λ (n : ℕ). FewApart take_below take_extend (take_start problem member lens bits) arcs (256 * n * (high_of problem member / 60 + 1))) size
     (subst (λ (l : Lens). FewApart take_below take_extend (take_start problem member l bits) arcs (256 * sink * (high_of problem member / 60 + 1))) is bound)
   where

@@ -35,7 +35,7 @@ use Rattle.label_lattice.specs.Usage.{usage_extend}
 use Rattle.label_setter.specs.declared.graph.Arc.{Arc}
 use Rattle.roster_model.specs.declared.problem.Problem.{Problem}
 use Rattle.roster_model.specs.declared.proof.Lens.{Lens}
-use Rattle.roster_model.specs.Legality.{high_of}
+use Rattle.lens_classes.specs.declared.terms.Terms.{Terms}
 use Rattle.roster_model.specs.Lenses.{floor_to, ceil_to}
 use Rattle.roster_model.specs.Timelines.{fixed_of}
 use Rattle.line_items.specs.declared.masks.Mark.{Mark}
@@ -110,7 +110,7 @@ alike_second o p (inr both) q e = (both.first, both.first_is)
 abbrev any_done : {R : Type 0} → R → Unit {0} → Bool
 any_done r e = true
 
-module _ (N : ℕ) (problem : Problem) (member : ℕ) (lens : Lens) (adds clear set : ℕ → ℕ) (sink bits : ℕ) (asks : MaskEnd)
+module _ (N : ℕ) (problem : Problem) (member : ℕ) (lens : Lens) (terms : Terms) (adds clear set : ℕ → ℕ) (sink bits : ℕ) (asks : MaskEnd)
     (source : length problem.base.pairings ≤ adds 0) (last : length problem.base.pairings ≤ adds sink)
     (marked : AreMarked problem member lens adds clear set bits)
     (small : sum_by (λ (e : Event). e.credit) (fixed_of problem member) ≤ 2 ^ 31)
@@ -133,10 +133,10 @@ module _ (N : ℕ) (problem : Problem) (member : ℕ) (lens : Lens) (adds clear 
 
   -- the step of an arc by its number
   abbrev f : ℕ → TakeStepOf N
-  f number = take_step {N = N} problem member lens adds clear set (T number) (from_at number) (to_at number)
+  f number = take_step {N = N} problem member lens terms adds clear set (T number) (from_at number) (to_at number)
 
   abbrev credit_step : ℕ → SpanStep
-  credit_step t = record { down = credit_at problem (floor_to lens.grain) adds t; up = credit_at problem (ceil_to lens.grain) adds t; cap = high_of problem member }
+  credit_step t = record { down = credit_at problem (floor_to lens.grain) adds t; up = credit_at problem (ceil_to lens.grain) adds t; cap = terms.high }
 
   abbrev bids_step : ℕ → MaskStep
   bids_step t = record { clear = clear t; set = set t }
@@ -151,11 +151,11 @@ module _ (N : ℕ) (problem : Problem) (member : ℕ) (lens : Lens) (adds clear 
   first = label_start {N = N} problem member lens bits
 
   abbrev end : EndOf
-  end = label_end problem member asks
+  end = label_end terms asks
 
-  credit_calms : Calms span_extend start.first credit_step sink (IsCalmSpan (high_of problem member))
+  credit_calms : Calms span_extend start.first credit_step sink (IsCalmSpan terms.high)
   credit_calms =
-      span_calms (credit_at problem (floor_to lens.grain) adds) (credit_at problem (ceil_to lens.grain) adds) (high_of problem member) sink start.first small
+      span_calms (credit_at problem (floor_to lens.grain) adds) (credit_at problem (ceil_to lens.grain) adds) terms.high sink start.first small
       (no_credit problem member lens adds clear set bits marked (floor_to lens.grain) 0 source) (no_credit problem member lens adds clear set bits marked (ceil_to lens.grain) 0 source)
       (no_credit problem member lens adds clear set bits marked (floor_to lens.grain) sink last) (no_credit problem member lens adds clear set bits marked (ceil_to lens.grain) sink last)
 
@@ -273,19 +273,19 @@ module _ (N : ℕ) (problem : Problem) (member : ℕ) (lens : Lens) (adds clear 
       go false off = rw off (still_chain pause_extend (any_done {R = Pause}) (record { latest = 0; busy = 0 }) tt (λ n. record { least = 0; renew = 0; busy = 0; free = 0 }) chain (λ n. refl) refl)
 
   abbrev DayParts : List ℕ → Type 0
-  DayParts chain = Completes daily_extend (any_done {R = Daily}) (record { count = fixed_busy_days problem member lens; today = false }) tt (map (λ n. daily_step problem member lens adds (T n) (from_at n) (to_at n)) chain)
+  DayParts chain = Completes daily_extend (any_done {R = Daily}) (record { count = fixed_busy_days problem member lens; today = false }) tt (map (λ n. daily_step problem member lens terms adds (T n) (from_at n) (to_at n)) chain)
 
   abbrev DayStops : List ℕ → Type 0
-  DayStops js = Completes least_extend (any_done {R = Least}) (record { value = fixed_busy_days problem member lens }) tt (along (day_step problem member lens adds) 0 js)
+  DayStops js = Completes least_extend (any_done {R = Least}) (record { value = fixed_busy_days problem member lens }) tt (along (day_step problem member lens terms adds) 0 js)
 
   days_to : (chain : List ℕ) → IsPath arcs 0 chain sink → DayParts chain → DayStops (stops_by sink (taken_by taken chain))
   days_to chain path c = go lens.days refl
     where
       go : (b : Bool) → lens.days ≡ b → DayStops (stops_by sink (taken_by taken chain))
       go true on =
-          let alike = days_alike problem member lens adds sink sorted placed on may must gain step arcs taken are some nears starts free_source (fixed_busy_days problem member lens) chain path in
-          let found = alike_first (run daily_extend (record { count = fixed_busy_days problem member lens; today = false }) (map (λ n. daily_step problem member lens adds (T n) (from_at n) (to_at n)) chain))
-          (run least_extend (record { value = fixed_busy_days problem member lens }) (along (day_step problem member lens adds) 0 (stops_by sink (taken_by taken chain)))) alike c.last c.runs in
+          let alike = days_alike problem member lens terms adds sink sorted placed on may must gain step arcs taken are some nears starts free_source (fixed_busy_days problem member lens) chain path in
+          let found = alike_first (run daily_extend (record { count = fixed_busy_days problem member lens; today = false }) (map (λ n. daily_step problem member lens terms adds (T n) (from_at n) (to_at n)) chain))
+          (run least_extend (record { value = fixed_busy_days problem member lens }) (along (day_step problem member lens terms adds) 0 (stops_by sink (taken_by taken chain)))) alike c.last c.runs in
           record { last = found.0; runs = found.1; is_done = refl }
       go false off = rw off (still least_extend (any_done {R = Least}) (record { value = 0 }) tt (λ i j. record { add = 0; cap = 0 }) 0 (stops_by sink (taken_by taken chain)) (λ x y. refl) refl)
 
@@ -294,9 +294,9 @@ module _ (N : ℕ) (problem : Problem) (member : ℕ) (lens : Lens) (adds clear 
     where
       go : (b : Bool) → lens.days ≡ b → DayParts chain
       go true on =
-          let alike = days_alike problem member lens adds sink sorted placed on may must gain step arcs taken are some nears starts free_source (fixed_busy_days problem member lens) chain path in
-          let found = alike_second (run daily_extend (record { count = fixed_busy_days problem member lens; today = false }) (map (λ n. daily_step problem member lens adds (T n) (from_at n) (to_at n)) chain))
-          (run least_extend (record { value = fixed_busy_days problem member lens }) (along (day_step problem member lens adds) 0 (stops_by sink (taken_by taken chain)))) alike c.last c.runs in
+          let alike = days_alike problem member lens terms adds sink sorted placed on may must gain step arcs taken are some nears starts free_source (fixed_busy_days problem member lens) chain path in
+          let found = alike_second (run daily_extend (record { count = fixed_busy_days problem member lens; today = false }) (map (λ n. daily_step problem member lens terms adds (T n) (from_at n) (to_at n)) chain))
+          (run least_extend (record { value = fixed_busy_days problem member lens }) (along (day_step problem member lens terms adds) 0 (stops_by sink (taken_by taken chain)))) alike c.last c.runs in
           record { last = found.0; runs = found.1; is_done = refl }
       go false off = rw off (still_chain daily_extend (any_done {R = Daily}) (record { count = 0; today = false }) tt (λ n. record { add = 0; again = false; keeps = false; sets = false; cap = 0 }) chain (λ n. refl) refl)
 
@@ -351,13 +351,13 @@ module _ (N : ℕ) (problem : Problem) (member : ℕ) (lens : Lens) (adds clear 
 
   -- a label completes a chain exactly where that of a line graph completes its stops
   pub stops_whole : (number : ℕ) (chain : List ℕ) → IsPath arcs 0 (number ∷ chain) sink → ChainWhole (number ∷ chain)
-      → Completes (label_extend {N = N}) (label_done {N = N}) (label_start {N = N} problem member lens bits) (label_end problem member asks)
-      (along (label_step {N = N} problem member lens adds clear set) 0 (stops_by sink (taken_by taken (number ∷ chain))))
+      → Completes (label_extend {N = N}) (label_done {N = N}) (label_start {N = N} problem member lens bits) (label_end terms asks)
+      (along (label_step {N = N} problem member lens terms adds clear set) 0 (stops_by sink (taken_by taken (number ∷ chain))))
   stops_whole number chain path whole =
       let p = chain_parts (number ∷ chain) whole in
       let js = stops_by sink (taken_by taken (number ∷ chain)) in
-      whole_from first end (label_step {N = N} problem member lens adds clear set) js (record {
-        credit = calm_to span_extend span_done start.first end.0 credit_step (IsCalmSpan (high_of problem member)) credit_calms number chain p.credit;
+      whole_from first end (label_step {N = N} problem member lens terms adds clear set) js (record {
+        credit = calm_to span_extend span_done start.first end.0 credit_step (IsCalmSpan terms.high) credit_calms number chain p.credit;
         bids = calm_to mask_extend mask_done start.second.first end.1.0 bids_step (λ r. r.bits < 2 ^ 64) bids_calms number chain p.bids;
         free = free_to (number ∷ chain) path p.free;
         days = days_to (number ∷ chain) path p.days;
@@ -366,14 +366,14 @@ module _ (N : ℕ) (problem : Problem) (member : ℕ) (lens : Lens) (adds clear 
       })
 
   pub chain_whole : (chain : List ℕ) → IsPath arcs 0 chain sink
-      → Completes (label_extend {N = N}) (label_done {N = N}) (label_start {N = N} problem member lens bits) (label_end problem member asks)
-      (along (label_step {N = N} problem member lens adds clear set) 0 (stops_by sink (taken_by taken chain)))
+      → Completes (label_extend {N = N}) (label_done {N = N}) (label_start {N = N} problem member lens bits) (label_end terms asks)
+      (along (label_step {N = N} problem member lens terms adds clear set) 0 (stops_by sink (taken_by taken chain)))
       → ChainWhole chain
   chain_whole chain path whole =
       let js = stops_by sink (taken_by taken chain) in
-      let p = parts_from first end (label_step {N = N} problem member lens adds clear set) js whole in
+      let p = parts_from first end (label_step {N = N} problem member lens terms adds clear set) js whole in
       chain_from chain (record {
-        credit = calm_back span_extend span_done start.first end.0 credit_step (IsCalmSpan (high_of problem member)) credit_calms chain p.credit;
+        credit = calm_back span_extend span_done start.first end.0 credit_step (IsCalmSpan terms.high) credit_calms chain p.credit;
         bids = calm_back mask_extend mask_done start.second.first end.1.0 bids_step (λ r. r.bits < 2 ^ 64) bids_calms chain p.bids;
         free = free_back chain path p.free;
         days = days_back chain path p.days;

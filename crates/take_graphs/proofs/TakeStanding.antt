@@ -1,4 +1,4 @@
--- A graph that passes and takes stands for the lens lines.
+-- A graph that passes and takes stands for the lines that keep the terms.
 use Rattle.std.proofs.Common.{◌≡◌, ℕ, ℤ, pos, ◌+ℤ◌, zero, suc, ◌+◌, ◌-◌, ◌^◌, ◌<◌, ◌≤◌, Bool, true, false, not, ◌&&◌, ◌||◌, ◌==◌, List, [], ◌∷◌, Some, length, map, refl, ap, sym, ◌∙◌, subst, arith, inl, inr, ◌⊎◌}
 use Rattle.std.specs.Prelude.{sum_by, nat_lt, nat_le, slice_index_or}
 use Rattle.std.specs.List.{list_any}
@@ -10,10 +10,10 @@ use Rattle.duty_calendar.specs.declared.event.Event.{Event}
 use Rattle.label_lattice.specs.declared.masks.MaskEnd.{MaskEnd}
 use Rattle.label_setter.specs.Chains.{GraphOf, IsFeasible, source}
 use Rattle.roster_model.specs.declared.problem.Problem.{Problem}
-use Rattle.roster_model.specs.declared.goal.Goal.{Goal}
 use Rattle.roster_model.specs.declared.node.Decision.{Decision}
 use Rattle.roster_model.specs.declared.proof.Lens.{Lens}
-use Rattle.roster_model.specs.Lenses.{IsLensLine}
+use Rattle.lens_classes.specs.declared.terms.Terms.{Terms}
+use Rattle.lens_classes.specs.TermLines.{IsTermLine}
 use Rattle.roster_model.specs.Timelines.{fixed_of}
 use Rattle.roster_model.specs.Weights.{weight_at, weight_of, total}
 use Rattle.roster_model.proofs.Counting.{filter-range-agree}
@@ -124,10 +124,10 @@ same_line count sink adds list taken source last same chain =
         go (suc t) e rest =
             ap (λ (b : Bool). b || list_any (λ j. slice_index_or list j count == p) chain) e ∙ ap (λ (b : Bool). (adds (suc t) == p) || b) rest
 
-module _ (N : ℕ) (problem : Problem) (member : ℕ) (goal : Goal) (node : List Decision) (lens : Lens)
+module _ (N : ℕ) (problem : Problem) (member : ℕ) (node : List Decision) (lens : Lens) (terms : Terms)
     (adds : ℕ → ℕ) (sink : ℕ) (clear set : ℕ → ℕ) (bits : ℕ) (asks : MaskEnd)
-    (follow : PartsFollow N problem member goal node lens adds sink clear set bits asks)
-    (base : Bool) (base_is : base ≡ is_base_open problem member lens)
+    (follow : PartsFollow N problem member node lens terms adds sink clear set bits asks)
+    (base : Bool) (base_is : base ≡ is_base_open problem member lens terms)
     (node_range : (p : ℕ) → must_fly member node p ≡ true → p < length problem.base.pairings)
     (sorted : IsSorted (item_count problem member lens) sink adds (item_begins problem member lens) (item_rests problem member lens))
     (placed : IsPlaced problem member lens adds sink)
@@ -135,13 +135,13 @@ module _ (N : ℕ) (problem : Problem) (member : ℕ) (goal : Goal) (node : List
     (small : sum_by (λ (e : Event). e.credit) (fixed_of problem member) ≤ 2 ^ 31)
     (weights : List ℤ) (long : length weights ≡ length problem.base.pairings)
     (graph : GraphOf (TakeOf N) (TakeStepOf N) TakeEndOf) (places : graph.places ≡ sink + 1)
-    (start_is : graph.start ≡ take_start problem member lens bits) (end_is : graph.end ≡ label_end problem member asks)
+    (start_is : graph.start ≡ take_start problem member lens bits) (end_is : graph.end ≡ label_end terms asks)
     (taken : List ℕ)
     (are : AreTakeArcs
     (passes_by (may_visit base (may_visit_item problem member node lens) adds sink) (λ j. must_visit_item problem member node lens (adds j)))
     (takes_by (may_visit base (may_visit_item problem member node lens) adds sink) (λ j. must_visit_item problem member node lens (adds j))
     (is_near (item_begins problem member lens) (item_rests problem member lens) adds sink))
-    (λ t. weight_at weights (adds t)) (take_step {N = N} problem member lens adds clear set) graph.arcs taken) where
+    (λ t. weight_at weights (adds t)) (take_step {N = N} problem member lens terms adds clear set) graph.arcs taken) where
   abbrev may : ℕ → Bool
   may = may_visit base (may_visit_item problem member node lens) adds sink
 
@@ -155,13 +155,13 @@ module _ (N : ℕ) (problem : Problem) (member : ℕ) (goal : Goal) (node : List
   gain t = weight_at weights (adds t)
 
   abbrev step : ℕ → ℕ → ℕ → TakeStepOf N
-  step = take_step {N = N} problem member lens adds clear set
+  step = take_step {N = N} problem member lens terms adds clear set
 
   abbrev start : TakeOf N
   start = take_start {N = N} problem member lens bits
 
   abbrev end : EndOf
-  end = label_end problem member asks
+  end = label_end terms asks
 
   abbrev count : ℕ
   count = length problem.base.pairings
@@ -194,21 +194,21 @@ module _ (N : ℕ) (problem : Problem) (member : ℕ) (goal : Goal) (node : List
   Runs chain = Completes (take_extend {N = N}) (take_done {N = N}) start end (steps_by step graph.arcs taken chain)
 
   abbrev RunsAlong : List ℕ → Type 0
-  RunsAlong js = Completes (label_extend {N = N}) (label_done {N = N}) (label_start {N = N} problem member lens bits) end (along (label_step {N = N} problem member lens adds clear set) 0 js)
+  RunsAlong js = Completes (label_extend {N = N}) (label_done {N = N}) (label_start {N = N} problem member lens bits) end (along (label_step {N = N} problem member lens terms adds clear set) 0 js)
 
   runs_to : (number : ℕ) (chain : List ℕ) → IsPath graph.arcs 0 (number ∷ chain) sink → Runs (number ∷ chain) → RunsAlong (stops_by sink (taken_by taken (number ∷ chain)))
   runs_to number chain path c =
-      stops_whole N problem member lens adds clear set sink bits asks from_source to_sink marked small sorted placed may must gain step graph.arcs taken are sorted.has_sink nears starts free_source number chain path c
+      stops_whole N problem member lens terms adds clear set sink bits asks from_source to_sink marked small sorted placed may must gain step graph.arcs taken are sorted.has_sink nears starts free_source number chain path c
 
   runs_back : (chain : List ℕ) → IsPath graph.arcs 0 chain sink → RunsAlong (stops_by sink (taken_by taken chain)) → Runs chain
   runs_back chain path c =
-      chain_whole N problem member lens adds clear set sink bits asks from_source to_sink marked small sorted placed may must gain step graph.arcs taken are sorted.has_sink nears starts free_source chain path c
+      chain_whole N problem member lens terms adds clear set sink bits asks from_source to_sink marked small sorted placed may must gain step graph.arcs taken are sorted.has_sink nears starts free_source chain path c
 
   -- what the stops of a line gain
-  weighed : (line : List ℕ) → IsFitLine problem member node line → is_base_open problem member lens ≡ true
+  weighed : (line : List ℕ) → IsFitLine problem member node line → is_base_open problem member lens terms ≡ true
       → total (map gain (line_stops problem member lens adds sink line)) ≡ weight_of weights line
   weighed line fit wide =
-      let v = visited problem member node lens base base_is node_range adds sink sorted placed line fit wide in
+      let v = visited problem member node lens terms base base_is node_range adds sink sorted placed line fit wide in
       ap total (sym (along_map gain 0 (line_stops problem member lens adds sink line)))
       ∙ gains_weigh weights (length problem.base.pairings) adds long (λ i j lt e. placed.once i j (omega arith) e) (line_stops problem member lens adds sink line) line v.up v.line_is
 
@@ -222,7 +222,7 @@ module _ (N : ℕ) (problem : Problem) (member : ℕ) (goal : Goal) (node : List
   from_start a b h = omega (arith, ints)
 
   pub record IsTakenLine (chain : List ℕ) (reached : ℤ) : Type 0 where
-    pub passes : IsLensLine problem member goal node lens (line_of (length problem.base.pairings) adds (stops_by sink (taken_by taken chain)))
+    pub passes : IsTermLine problem member node lens terms (line_of (length problem.base.pairings) adds (stops_by sink (taken_by taken chain)))
     pub weighs : reached ≡ weight_of weights (line_of (length problem.base.pairings) adds (stops_by sink (taken_by taken chain)))
 
   -- the line of a feasible chain is a lens line, of the chain's gain
@@ -234,7 +234,7 @@ module _ (N : ℕ) (problem : Problem) (member : ℕ) (goal : Goal) (node : List
       let path : IsPath graph.arcs 0 chain sink = subst (IsPath graph.arcs 0 chain) to l.path in
       let w = path_walks may must near sink gain step graph.arcs taken are has nears starts free_source chain path in
       let js = stops_by sink (taken_by taken chain) in
-      let all = walk_line problem member node lens base base_is node_range adds sink sorted placed js w.0 w.1 in
+      let all = walk_line problem member node lens terms base base_is node_range adds sink sorted placed js w.0 w.1 in
       let ran : Runs chain = record {
         last = feasible.last;
         runs = subst (λ (s : TakeOf N). run (take_extend {N = N}) s (steps_by step graph.arcs taken chain) ≡ Some feasible.last) start_is l.runs;
@@ -242,7 +242,7 @@ module _ (N : ℕ) (problem : Problem) (member : ℕ) (goal : Goal) (node : List
       } in
       record {
         passes =
-            label_passes N problem member goal node lens adds sink clear set bits asks follow base base_is node_range sorted placed (line_by chain) all.0 all.1
+            label_passes N problem member node lens terms adds sink clear set bits asks follow base base_is node_range sorted placed (line_by chain) all.0 all.1
             (subst RunsAlong all.2 (nonempty chain path ran));
         weighs =
             no_start reached (total (map gain (taken_by taken chain))) l.gains
@@ -260,13 +260,13 @@ module _ (N : ℕ) (problem : Problem) (member : ℕ) (goal : Goal) (node : List
     pub line_is : line_of (length problem.base.pairings) adds (stops_by sink (taken_by taken chain)) ≡ line
 
   -- and each lens line is that of a feasible chain
-  pub line_chained : (line : List ℕ) → IsLensLine problem member goal node lens line → HasTaken line
+  pub line_chained : (line : List ℕ) → IsTermLine problem member node lens terms line → HasTaken line
   line_chained line is =
-      let fit = lens_line_fits problem member goal node lens line is in
-      let wide = lens_line_opens problem member goal node lens line is in
+      let fit = lens_line_fits problem member node lens terms line is in
+      let wide = lens_line_opens problem member node lens terms line is in
       let js = line_stops problem member lens adds sink line in
-      let c = label_runs N problem member goal node lens adds sink clear set bits asks follow base base_is node_range sorted placed line is in
-      let w = line_walk problem member node lens base base_is node_range adds sink sorted placed line fit wide in
+      let c = label_runs N problem member node lens terms adds sink clear set bits asks follow base base_is node_range sorted placed line is in
+      let w = line_walk problem member node lens terms base base_is node_range adds sink sorted placed line fit wide in
       let has = sorted.has_sink in
       let way = walk_path may must near sink gain step graph.arcs taken are has nears starts free_source js (w.0, w.1) in
       let ts = taken_by taken way.chain in
@@ -294,10 +294,10 @@ module _ (N : ℕ) (problem : Problem) (member : ℕ) (goal : Goal) (node : List
     lines_same : (chain : List ℕ) → line_along (length problem.base.pairings) list chain ≡ line_of (length problem.base.pairings) adds (stops_by sink (taken_by taken chain))
     lines_same = same_line (length problem.base.pairings) sink adds list taken from_source to_sink same_adds
 
-    pub stands_by_arcs : StandsByArcs (take_extend {N = N}) (take_done {N = N}) graph list problem member goal node lens weights
+    pub stands_by_arcs : StandsByArcs (take_extend {N = N}) (take_done {N = N}) graph list problem member node lens terms weights
     stands_by_arcs = record {
       per_arc = per_arc;
-      lines = λ chain reached feasible. subst (IsLensLine problem member goal node lens) (sym (lines_same chain)) (chain_passes chain reached feasible).passes;
+      lines = λ chain reached feasible. subst (IsTermLine problem member node lens terms) (sym (lines_same chain)) (chain_passes chain reached feasible).passes;
       weighs = λ chain reached feasible. subst (λ (line : List ℕ). reached ≡ weight_of weights line) (sym (lines_same chain)) (chain_passes chain reached feasible).weighs;
       chains = λ line is. let c = line_chained line is in (c.chain, c.feasible, lines_same c.chain ∙ c.line_is);
     }

@@ -1,4 +1,4 @@
--- A graph that passes and takes by a chart stands for the lens lines.
+-- A graph that passes and takes by a chart stands for the lines that keep the terms.
 use Rattle.std.proofs.Common.{◌≡◌, ℕ, ℤ, zero, suc, ◌+◌, ◌*◌, ◌/◌, ◌^◌, ◌<◌, ◌≤◌, Bool, true, false, ◌&&◌, ◌==◌, List, [], ◌∷◌, None, length, map, refl, ap, sym, ◌∙◌, subst, arith, inl, inr}
 use Rattle.std.specs.Prelude.{sum_by, slice_get, slice_index_or, nat_lt, if◌then◌else◌}
 use Rattle.std.specs.Option.{option_map_or}
@@ -12,9 +12,10 @@ use Rattle.label_lattice.specs.declared.masks.MaskEnd.{MaskEnd}
 use Rattle.label_setter.specs.Chains.{GraphOf, FewApart}
 use Rattle.duty_calendar.specs.declared.event.Event.{Event}
 use Rattle.roster_model.specs.declared.problem.Problem.{Problem}
-use Rattle.roster_model.specs.declared.goal.Goal.{Goal}
 use Rattle.roster_model.specs.declared.node.Decision.{Decision}
 use Rattle.roster_model.specs.declared.proof.Lens.{Lens}
+use Rattle.lens_classes.specs.TermLines.{AreTermsOf}
+use Rattle.lens_classes.specs.declared.terms.Terms.{Terms}
 use Rattle.roster_model.specs.declared.bid.Bid.{Bid}
 use Rattle.roster_model.specs.Goals.{IsNode}
 use Rattle.roster_model.specs.Legality.{high_of}
@@ -57,6 +58,7 @@ hour_from_standard problem member lens standard = record {
   ];
   free30 = standard.free30;
   days = standard.days;
+  whole = standard.whole;
   windows = standard.windows;
 }
 
@@ -78,20 +80,20 @@ arc_adds count total le items source [] number p lt = ne_eqb count p (λ e. omeg
 arc_adds count total le items source (t ∷ taken) zero p lt = same_adds count total le items t p lt
 arc_adds count total le items source (t ∷ taken) (suc number) p lt = arc_adds count total le items source taken number p lt
 
-module _ {N : ℕ} (problem : Problem) (member : ℕ) (goal : Goal) (node : List Decision) (lens : Lens) (weights : List ℤ)
-    (long : length weights ≡ length problem.base.pairings) (shape : IsLens problem member lens) (few : length lens.windows ≤ N) (decisions : IsNode problem node)
+module _ {N : ℕ} (problem : Problem) (member : ℕ) (node : List Decision) (lens : Lens) (terms : Terms) (weights : List ℤ)
+    (long : length weights ≡ length problem.base.pairings) (shape : IsLens problem member lens) (plain : lens.whole ≡ false) (fits : AreTermsOf problem member terms) (few : length lens.windows ≤ N) (decisions : IsNode problem node)
     (items : List ℕ) (order : IsItemOrder problem member lens items)
-    (chart : Chart N) (is : IsChart problem member node lens weights items chart)
-    (bits : ℕ) (starts : IsMask problem member lens Start bits) (asks : MaskEnd) (end : IsBidsEnd problem member goal lens asks)
+    (chart : Chart N) (is : IsChart problem member node lens terms weights items chart)
+    (bits : ℕ) (starts : IsMask problem member lens Start bits) (asks : MaskEnd) (end : IsBidsEnd problem member lens terms asks)
     (graph : GraphOf (TakeOf N) (TakeStepOf N) TakeEndOf) (places : graph.places ≡ length chart.places.items)
-    (start_is : graph.start ≡ take_start problem member lens bits) (end_is : graph.end ≡ label_end problem member asks)
+    (start_is : graph.start ≡ take_start problem member lens bits) (end_is : graph.end ≡ label_end terms asks)
     (taken : List ℕ)
     (are : AreTakeArcs (passes_by (chart_may chart) (chart_must chart)) (takes_by (chart_may chart) (chart_must chart) (chart_near chart)) (λ t. chart_gain chart 0 t) (chart_take chart) graph.arcs taken) where
   abbrev at : ℕ → ℕ
-  at = adds problem member node lens weights long items order chart is
+  at = adds problem member node lens terms weights long items order chart is
 
   long_items : length items ≡ item_count problem member lens + 2
-  long_items = items_long problem member node lens weights long items order chart is
+  long_items = items_long problem member node lens terms weights long items order chart is
 
   sorted : IsSorted (item_count problem member lens) (item_count problem member lens + 1) (λ j. slice_index_or items j (item_count problem member lens)) (item_begins problem member lens) (item_rests problem member lens)
   sorted =
@@ -103,23 +105,23 @@ module _ {N : ℕ} (problem : Problem) (member : ℕ) (goal : Goal) (node : List
       subst (λ (xs : List ℕ). IsPlaced problem member lens (λ j. slice_index_or xs j (item_count problem member lens)) (item_count problem member lens + 1))
       (sym order.ends) (order_placed problem member lens order.order order.moved order.sorted)
 
-  masks : AreMarked problem member lens at (clears problem member node lens weights long items order chart is) (sets problem member node lens weights long items order chart is) bits
-  masks = marked problem member node lens weights long items order chart is bits starts
+  masks : AreMarked problem member lens at (clears problem member node lens terms weights long items order chart is) (sets problem member node lens terms weights long items order chart is) bits
+  masks = marked problem member node lens terms weights long items order chart is bits starts
 
   small : sum_by (λ (e : Event). e.credit) (fixed_of problem member) ≤ 2 ^ 31
   small = let f = fixed-credit problem.base.rules.horizon problem.base.members member problem.valid.month.members_form.each in omega arith
 
-  pub take_stands : StandsByArcs (take_extend {N = N}) (take_done {N = N}) graph (map (λ t. slice_index_or (map (added_by (length problem.base.pairings)) items) t (length problem.base.pairings)) taken) problem member goal node lens weights
+  pub take_stands : StandsByArcs (take_extend {N = N}) (take_done {N = N}) graph (map (λ t. slice_index_or (map (added_by (length problem.base.pairings)) items) t (length problem.base.pairings)) taken) problem member node lens terms weights
   take_stands =
-      stands_by_arcs N problem member goal node lens at (item_count problem member lens + 1)
-      (clears problem member node lens weights long items order chart is) (sets problem member node lens weights long items order chart is) bits asks
-      (parts_follow N problem member goal node lens at (item_count problem member lens + 1)
-      (clears problem member node lens weights long items order chart is) (sets problem member node lens weights long items order chart is) bits asks shape few masks end)
-      (is_base_open problem member lens) refl
+      stands_by_arcs N problem member node lens terms at (item_count problem member lens + 1)
+      (clears problem member node lens terms weights long items order chart is) (sets problem member node lens terms weights long items order chart is) bits asks
+      (parts_follow N problem member node lens terms at (item_count problem member lens + 1)
+      (clears problem member node lens terms weights long items order chart is) (sets problem member node lens terms weights long items order chart is) bits asks fits shape plain few masks end)
+      (is_base_open problem member lens terms) refl
       (λ p must. decided_range (length problem.base.pairings) node member p true (recursion_from_All (λ d. d.pairing < length problem.base.pairings) node decisions.pairings) must)
       sorted placed masks small weights long graph
       (places ∙ (let l = is.are.long in let c = long_items in omega arith)) start_is end_is taken
-      (takes_same problem member node lens weights long items order chart is graph.arcs taken are)
+      (takes_same problem member node lens terms weights long items order chart is graph.arcs taken are)
       (map (λ t. slice_index_or (map (added_by (length problem.base.pairings)) items) t (length problem.base.pairings)) taken)
       (length-map taken (λ t. slice_index_or (map (added_by (length problem.base.pairings)) items) t (length problem.base.pairings)) ∙ are.long)
       (λ number p lt. arc_adds (length problem.base.pairings) (item_count problem member lens) (omega arith) items placed.source taken number p lt)
@@ -128,32 +130,32 @@ module _ {N : ℕ} (problem : Problem) (member : ℕ) (goal : Goal) (node : List
       → FewApart take_below take_extend graph.start graph.arcs (256 * (length problem.base.pairings + 1) * (high_of problem member / 60 + 1))
   take_few hour =
       subst (λ (s : TakeOf N). FewApart take_below take_extend s graph.arcs (256 * (length problem.base.pairings + 1) * (high_of problem member / 60 + 1))) (sym start_is)
-      (few_hour {N = N} problem member lens at (clears problem member node lens weights long items order chart is) (sets problem member node lens weights long items order chart is)
+      (few_hour {N = N} problem member lens terms at (clears problem member node lens terms weights long items order chart is) (sets problem member node lens terms weights long items order chart is)
       (item_count problem member lens + 1)
-      (item_may problem member node lens weights long items order chart is) (item_must problem member node lens weights long items order chart is) (item_near problem member node lens weights long items order chart is)
+      (item_may problem member node lens terms weights long items order chart is) (item_must problem member node lens terms weights long items order chart is) (item_near problem member node lens terms weights long items order chart is)
       (λ t. weight_at weights (at t)) bits graph.arcs taken hour placed inside
-      (λ j. hour_mask problem member lens (Set (at j)) (sets problem member node lens weights long items order chart is j) hour (masks.sets j))
+      (λ j. hour_mask problem member lens (Set (at j)) (sets problem member node lens terms weights long items order chart is j) hour (masks.sets j))
       (hour_mask problem member lens Start bits hour starts)
-      (fixed-credit problem.base.rules.horizon problem.base.members member problem.valid.month.members_form.each) (high_few problem member) problem.valid.month.pairings_form.few
-      (takes_same problem member node lens weights long items order chart is graph.arcs taken are))
+      (fixed-credit problem.base.rules.horizon problem.base.members member problem.valid.month.members_form.each) fits.high (high_few problem member) problem.valid.month.pairings_form.few
+      (takes_same problem member node lens terms weights long items order chart is graph.arcs taken are))
     where
-      inside : (j : ℕ) → item_may problem member node lens weights long items order chart is j ≡ true → j ≤ item_count problem member lens + 1
+      inside : (j : ℕ) → item_may problem member node lens terms weights long items order chart is j ≡ true → j ≤ item_count problem member lens + 1
       inside j may =
           let l = is.are.long in
           let c = long_items in
-          let lt = may_within chart (omega arith) j (may_same problem member node lens weights long items order chart is j ∙ may) in
+          let lt = may_within chart (omega arith) j (may_same problem member node lens terms weights long items order chart is j ∙ may) in
           omega arith
 
   -- what the contract says of the graph
   pub record IsTakeGraph (list : List ℕ) : Type 0 where
-    pub stands_for : StandsByArcs (take_extend {N = N}) (take_done {N = N}) graph list problem member goal node lens weights
+    pub stands_for : StandsByArcs (take_extend {N = N}) (take_done {N = N}) graph list problem member node lens terms weights
     pub few_ways : length graph.arcs ≤ 2 * item_count problem member lens + 1
     pub labels : IsHourLens lens → FewApart take_below take_extend graph.start graph.arcs (256 * (length problem.base.pairings + 1) * (high_of problem member / 60 + 1))
 
   pub is_take_graph : (list : List ℕ) → list ≡ map (λ t. slice_index_or (map (added_by (length problem.base.pairings)) items) t (length problem.base.pairings)) taken
       → length graph.arcs + 3 ≤ 2 * graph.places → IsTakeGraph list
   is_take_graph list same few_all = record {
-    stands_for = subst (λ (adds : List ℕ). StandsByArcs (take_extend {N = N}) (take_done {N = N}) graph adds problem member goal node lens weights) (sym same) take_stands;
+    stands_for = subst (λ (adds : List ℕ). StandsByArcs (take_extend {N = N}) (take_done {N = N}) graph adds problem member node lens terms weights) (sym same) take_stands;
     few_ways = let l = is.are.long in let c = long_items in let p = places in omega arith;
     labels = take_few;
   }

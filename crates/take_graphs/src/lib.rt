@@ -1,4 +1,4 @@
-//! Graphs that pass over an item or take it, whose chains are the lens lines of a member.
+//! Graphs that pass over an item or take it, whose chains are the lines of a member that pass a lens and keep terms.
 #![tactic(auto)]
 
 mod choices;

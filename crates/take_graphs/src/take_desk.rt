@@ -1,11 +1,12 @@
 //! Graphs of takes in memory of their own.
-ghost use Rattle.std.specs.Prelude.{◌≡◌, ◌+◌, ◌*◌, ◌/◌, ◌<◌, ◌≤◌, [], ℕ, IfOk, Some, length, slice_get};
+ghost use Rattle.std.specs.Prelude.{◌≡◌, ◌+◌, ◌*◌, ◌/◌, ◌<◌, ◌≤◌, [], ℕ, IfOk, Some, false, length, slice_get};
 ghost use Rattle.label_setter.specs.Chains.{FewApart};
 ghost use Rattle.label_setter.specs.Graphs.{IsGraph};
 ghost use Rattle.label_setter.specs.declared.graph.Arc.{Arc};
-ghost use Rattle.roster_model.specs.Goals.{IsGoal, IsNode};
+ghost use Rattle.roster_model.specs.Goals.{IsNode};
 ghost use Rattle.roster_model.specs.Legality.{high_of};
 ghost use Rattle.roster_model.specs.Lenses.{IsLens};
+ghost use Rattle.lens_classes.specs.TermLines.{AreTermsOf};
 ghost use Rattle.line_items.specs.Items.{item_count};
 ghost use Rattle.line_lens.specs.LineGraphs.{IsHourLens};
 ghost use Rattle.take_graphs.specs.ArcLines.{StandsByArcs};
@@ -17,7 +18,8 @@ use crate::take_lines::{TakeEnds, TakeLabel, TakeParts, fill_takes};
 use duty_calendar::Memory;
 use label_lattice::Resource;
 use label_setter::Arc;
-use roster_model::{Goal, Lens, Node, Problem};
+use lens_classes::Terms;
+use roster_model::{Lens, Node, Problem};
 use std::alloc::Global;
 use std::marker::Model;
 
@@ -55,21 +57,22 @@ impl<const N: usize> TakeDesk<N> {
         })
     }
 
-    /// Draws the graph of a member's lens lines, as `take_graph` does. It takes no memory.
+    /// Draws the graph of a member's lines that keep the terms, as `take_graph` does. It takes no memory.
     pub fn draw(
         &mut self,
         problem: &Problem,
         member: u32,
-        goal: &Goal,
+        terms: &Terms,
         node: &Node,
         lens: &Lens,
         weights: &[i64],
     ) -> TakeEnds<N>
         requires fits { length problem.now.base.pairings ≤ self.old.pairings }
         requires member_in_range { member < length problem.now.base.members }
-        requires goal { IsGoal problem.now goal.now }
+        requires terms { AreTermsOf problem.now member terms.now }
         requires node { IsNode problem.now node.now }
         requires lens { IsLens problem.now member lens.now }
+        requires plain { lens.now.whole ≡ false }
         requires per_pairing { length weights.now ≡ length problem.now.base.pairings }
         requires small { AreSmallWeights weights.now }
         requires windows { length lens.now.windows ≤ N }
@@ -80,9 +83,9 @@ impl<const N: usize> TakeDesk<N> {
               start = result.start;
               end = result.end;
               arcs = self.new.arcs;
-            }) self.new.adds problem.now member goal.now node.now lens.now
+            }) self.new.adds problem.now member node.now lens.now terms.now
             weights.now }
-        ensures drawn { IsDrawn problem.now member goal.now node.now lens.now weights.now
+        ensures drawn { IsDrawn problem.now member node.now lens.now terms.now weights.now
             (record {
               places = result.places;
               start = result.start;
@@ -91,7 +94,7 @@ impl<const N: usize> TakeDesk<N> {
             }) self.new.adds }
         ensures caps { (number : ℕ) (arc : Arc (TakeStepOf N))
             → slice_get self.new.arcs number ≡ Some arc
-            → arc.step.0.cap ≡ high_of problem.now member }
+            → arc.step.0.cap ≡ terms.now.high }
         ensures few { length self.new.arcs ≤ 2 * item_count problem.now member lens.now + 1 }
         ensures places { result.places ≡ item_count problem.now member lens.now + 2 }
         ensures labels { IsHourLens lens.now → FewApart take_below take_extend result.start
@@ -106,7 +109,7 @@ impl<const N: usize> TakeDesk<N> {
             &mut self.parts,
             problem,
             member,
-            goal,
+            terms,
             node,
             lens,
             weights,

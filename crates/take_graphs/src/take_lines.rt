@@ -1,11 +1,12 @@
-//! The graph that passes over the items of places or takes them, and whose chains are the lens lines of a member.
-ghost use Rattle.std.specs.Prelude.{◌≡◌, ◌+◌, ◌*◌, ◌/◌, ◌<◌, ◌≤◌, ℕ, All, Some, IfOk, IsErr, OnOk, length, map, slice_get, slice_index_or, vec_capacity};
+//! The graph that passes over the items of places or takes them, and whose chains are a member's lines that keep terms.
+ghost use Rattle.std.specs.Prelude.{◌≡◌, ◌+◌, ◌*◌, ◌/◌, ◌<◌, ◌≤◌, ℕ, All, Some, IfOk, IsErr, OnOk, false, length, map, slice_get, slice_index_or, vec_capacity};
 ghost use Rattle.label_setter.specs.Chains.{FewApart};
 ghost use Rattle.label_setter.specs.Graphs.{FitsPlaces, IsGraph};
 ghost use Rattle.label_setter.specs.declared.graph.Arc.{Arc};
-ghost use Rattle.roster_model.specs.Goals.{IsGoal, IsNode};
+ghost use Rattle.roster_model.specs.Goals.{IsNode};
 ghost use Rattle.roster_model.specs.Legality.{high_of};
 ghost use Rattle.roster_model.specs.Lenses.{IsLens};
+ghost use Rattle.lens_classes.specs.TermLines.{AreTermsOf};
 ghost use Rattle.line_lens.specs.Charts.{chart_gain, chart_may, chart_must, chart_near};
 ghost use Rattle.take_graphs.specs.TakeCharts.{chart_take};
 ghost use Rattle.line_lens.specs.LineGraphs.{IsHourLens, added_by};
@@ -22,8 +23,9 @@ use crate::takes::join_choices;
 use duty_calendar::{List, Memory};
 use label_lattice::{Daily, Mask, MaskEnd, Nights, Pair, Pause, Resource, Span, SpanEnd, Usage};
 use label_setter::{Arc, Graph};
+use lens_classes::Terms;
 use line_lens::{ChartDesk, end_label, fill_adds, fill_chart};
-use roster_model::{Goal, Lens, Node, Problem};
+use roster_model::{Lens, Node, Problem};
 use std::alloc::Global;
 
 /// The free block, beside busy days, nights in a row and windows, of a line that is decided place by place.
@@ -32,7 +34,7 @@ pub type PauseLabel<const N: usize> = Pair<Pause, Pair<Daily, Pair<Nights, Usage
 /// Credit, bids, the free block, busy days, nights in a row and windows, of a line that is decided place by place.
 pub type TakeLabel<const N: usize> = Pair<Span, Pair<Mask, PauseLabel<N>>>;
 
-/// A graph whose feasible chains are the lens lines of a member, with the pairing that each of its arcs adds to a
+/// A graph whose feasible chains are a member's lines that keep terms, with the pairing that each of its arcs adds to a
 /// line, or the number of pairings where it adds none.
 #[derive(Drop)]
 pub struct TakeGraph<const N: usize> {
@@ -146,22 +148,23 @@ fn fill_arcs<const N: usize>(parts: &mut TakeParts<N>, count: u32) -> Result<u32
     Ok(places)
 }
 
-/// Draws the graph of a member's lens lines: from each place an arc that passes over its item and one that takes it,
-/// where it may.
+/// Draws the graph of a member's lines that keep the terms: from each place an arc that passes over its item and one
+/// that takes it, where it may.
 pub(crate) fn fill_takes<const N: usize>(
     alloc: Global,
     parts: &mut TakeParts<N>,
     problem: &Problem,
     member: u32,
-    goal: &Goal,
+    terms: &Terms,
     node: &Node,
     lens: &Lens,
     weights: &[i64],
 ) -> Result<TakeEnds<N>, Memory>
     requires member_in_range { member < length problem.now.base.members }
-    requires goal { IsGoal problem.now goal.now }
+    requires terms { AreTermsOf problem.now member terms.now }
     requires node { IsNode problem.now node.now }
     requires lens { IsLens problem.now member lens.now }
+    requires plain { lens.now.whole ≡ false }
     requires per_pairing { length weights.now ≡ length problem.now.base.pairings }
     requires small { AreSmallWeights weights.now }
     requires windows { length lens.now.windows ≤ N }
@@ -169,8 +172,8 @@ pub(crate) fn fill_takes<const N: usize>(
     ensures graph { IfOk result (λ e. IsGraph e.places parts.new.arcs.items) }
     ensures stands { IfOk result (λ e. StandsByArcs take_extend take_done
         (record { places = e.places; start = e.start; end = e.end; arcs = parts.new.arcs.items })
-        parts.new.adds.items problem.now member goal.now node.now lens.now weights.now) }
-    ensures drawn { IfOk result (λ e. IsDrawn problem.now member goal.now node.now lens.now
+        parts.new.adds.items problem.now member node.now lens.now terms.now weights.now) }
+    ensures drawn { IfOk result (λ e. IsDrawn problem.now member node.now lens.now terms.now
         weights.now (record {
           places = e.places;
           start = e.start;
@@ -179,7 +182,7 @@ pub(crate) fn fill_takes<const N: usize>(
         }) parts.new.adds.items) }
     ensures caps { OnOk result ((number : ℕ) (arc : Arc (TakeStepOf N))
         → slice_get parts.new.arcs.items number ≡ Some arc
-        → arc.step.0.cap ≡ high_of problem.now member) }
+        → arc.step.0.cap ≡ terms.now.high) }
     ensures few { OnOk result (length parts.new.arcs.items
         ≤ 2 * item_count problem.now member lens.now + 1) }
     ensures places { IfOk result (λ e. e.places ≡ item_count problem.now member lens.now + 2) }
@@ -191,38 +194,48 @@ pub(crate) fn fill_takes<const N: usize>(
     ensures calm { (pairings : ℕ) → length problem.now.base.pairings ≤ pairings
         → HasTakeRoom pairings parts.old → IsErr result → ⊥ }
 {
-    fill_chart::<N>(alloc, &mut parts.desk, problem, member, node, lens, weights)?;
+    fill_chart::<N>(
+        alloc,
+        &mut parts.desk,
+        problem,
+        member,
+        terms,
+        node,
+        lens,
+        weights,
+    )?;
     let places = fill_arcs::<N>(parts, problem.base.pairings.len() as u32)?;
     Ok(TakeEnds {
         places,
         start: take_start(problem, member, lens),
-        end: end_label(problem, member, goal, lens),
+        end: end_label(problem, member, terms, lens),
     })
 }
 
-/// The graph of a member's lens lines: from each place an arc that passes over its item and one that takes it, where it
-/// may.
+/// The graph of a member's lines that pass a lens and keep terms: from each place an arc that passes over its item and
+/// one that takes it, where it may.
 pub fn take_graph<const N: usize>(
     alloc: Global,
     problem: &Problem,
     member: u32,
-    goal: &Goal,
+    terms: &Terms,
     node: &Node,
     lens: &Lens,
     weights: &[i64],
 ) -> Result<TakeGraph<N>, Memory>
     requires member_in_range { member < length problem.now.base.members }
-    requires goal { IsGoal problem.now goal.now }
+    requires terms { AreTermsOf problem.now member terms.now }
     requires node { IsNode problem.now node.now }
     requires lens { IsLens problem.now member lens.now }
+    requires plain { lens.now.whole ≡ false }
     requires per_pairing { length weights.now ≡ length problem.now.base.pairings }
     requires small { AreSmallWeights weights.now }
     requires windows { length lens.now.windows ≤ N }
     requires in_range { N ≤ 4096 }
     ensures stands { IfOk result (λ g. StandsByArcs take_extend take_done g.graph g.adds problem.now
-        member goal.now node.now lens.now weights.now) }
+        member node.now lens.now terms.now weights.now) }
     ensures caps { IfOk result (λ g. (number : ℕ) (arc : Arc (TakeStepOf N))
-        → slice_get g.graph.arcs number ≡ Some arc → arc.step.0.cap ≡ high_of problem.now member) }
+        → slice_get g.graph.arcs number ≡ Some arc → arc.step.0.cap ≡ terms.now.high) }
     ensures few { IfOk result (λ g. length g.graph.arcs
         ≤ 2 * item_count problem.now member lens.now + 1) }
     ensures labels { IfOk result (λ g. IsHourLens lens.now
@@ -231,7 +244,7 @@ pub fn take_graph<const N: usize>(
 {
     let mut parts = TakeParts::<N>::bare(alloc);
     let ends = fill_takes::<N>(
-        alloc, &mut parts, problem, member, goal, node, lens, weights,
+        alloc, &mut parts, problem, member, terms, node, lens, weights,
     )?;
     let TakeParts {
         desk: _,

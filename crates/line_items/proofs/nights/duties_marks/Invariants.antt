@@ -1,4 +1,4 @@
-use Rattle.std.proofs.Common.{◌≤◌, ℕ, drop, map}
+use Rattle.std.proofs.Common.{◌≤◌, drop, map}
 use Rattle.roster_model.specs.Spans.{duty_event}
 use Rattle.line_items.proofs.NightLoops.{CountsOn}
 use Rattle.line_items.proofs.nights.duties_marks.Given as goal

@@ -1,6 +1,5 @@
-use Rattle.std.proofs.Common.{◌≡◌, ◌∙◌, ℕ, List, ap, arith, length, length-append, map, refl}
+use Rattle.std.proofs.Common.{◌∙◌, ℕ, List, ap, arith, length, map, refl}
 use Rattle.std.specs.Prelude.{slice_index_or}
-use Rattle.std.proofs.lemmas.List.{length-map}
 use Rattle.line_lens.specs.LineGraphs.{added_by}
 use Rattle.line_lens.proofs.GraphOfLines.{may_within}
 use Rattle.take_graphs.proofs.TakeReserving.{take_room}

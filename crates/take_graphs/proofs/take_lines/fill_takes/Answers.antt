@@ -1,7 +1,6 @@
-use Rattle.std.proofs.Common.{◌≡◌, ◌+◌, ◌*◌, ◌≤◌, ◌∙◌, ap, sym, subst, length, refl, ℕ, List, arith, map}
+use Rattle.std.proofs.Common.{◌≡◌, ◌+◌, ◌*◌, ◌≤◌, ◌∙◌, ap, sym, subst, length, refl, ℕ, arith, map}
 use Rattle.std.specs.Prelude.{All, slice_index_or}
 use Rattle.label_setter.specs.Graphs.{FitsPlaces}
-use Rattle.label_setter.specs.declared.graph.Arc.{Arc}
 use Rattle.line_lens.specs.LineGraphs.{added_by}
 use Rattle.take_graphs.specs.TakeLabels.{TakeStepOf}
 use Rattle.line_lens.proofs.ItemOrder.{flights_few, items_few}
@@ -70,8 +69,8 @@ returns-clause-stands g c =
     c.in_ok-places.ensures.adds ∙ ap (λ (n : ℕ). map (λ t. slice_index_or (map (added_by n) items) t n) c.fill_arcs.new.parts.taken.items) count in
     let most = c.in_ok-places.ensures.few in
     let few : length c.fill_arcs.new.parts.arcs.items + 3 ≤ 2 * c.in_ok-places.places = omega (arith, most, long) in
-    let is = is_take_graph {N = g.row.N} problem c.args.member c.args.goal.now c.args.node.now c.args.lens.now c.args.weights.now
-    c.requires.per_pairing c.requires.lens c.requires.windows c.requires.node items order chart charted
+    let is = is_take_graph {N = g.row.N} problem c.args.member c.args.node.now c.args.lens.now c.args.terms.now c.args.weights.now
+    c.requires.per_pairing c.requires.lens c.requires.plain c.requires.terms c.requires.windows c.requires.node items order chart charted
     c.take_start.result.second.first.bits c.take_start.ensures.bits c.end_label.result.1.0 c.end_label.ensures.bids
     (record { places = c.in_ok-places.places; start = c.take_start.result; end = c.end_label.result; arcs = c.fill_arcs.new.parts.arcs.items }) long c.take_start.ensures.start c.end_label.ensures.end
     c.fill_arcs.new.parts.taken.items c.in_ok-places.ensures.arcs c.fill_arcs.new.parts.adds.items adds few in
@@ -112,8 +111,8 @@ returns-clause-few g c =
     c.in_ok-places.ensures.adds ∙ ap (λ (n : ℕ). map (λ t. slice_index_or (map (added_by n) items) t n) c.fill_arcs.new.parts.taken.items) count in
     let most = c.in_ok-places.ensures.few in
     let few : length c.fill_arcs.new.parts.arcs.items + 3 ≤ 2 * c.in_ok-places.places = omega (arith, most, long) in
-    let is = is_take_graph {N = g.row.N} problem c.args.member c.args.goal.now c.args.node.now c.args.lens.now c.args.weights.now
-    c.requires.per_pairing c.requires.lens c.requires.windows c.requires.node items order chart charted
+    let is = is_take_graph {N = g.row.N} problem c.args.member c.args.node.now c.args.lens.now c.args.terms.now c.args.weights.now
+    c.requires.per_pairing c.requires.lens c.requires.plain c.requires.terms c.requires.windows c.requires.node items order chart charted
     c.take_start.result.second.first.bits c.take_start.ensures.bits c.end_label.result.1.0 c.end_label.ensures.bids
     (record { places = c.in_ok-places.places; start = c.take_start.result; end = c.end_label.result; arcs = c.fill_arcs.new.parts.arcs.items }) long c.take_start.ensures.start c.end_label.ensures.end
     c.fill_arcs.new.parts.taken.items c.in_ok-places.ensures.arcs c.fill_arcs.new.parts.adds.items adds few in
@@ -132,8 +131,8 @@ returns-clause-labels g c =
     c.in_ok-places.ensures.adds ∙ ap (λ (n : ℕ). map (λ t. slice_index_or (map (added_by n) items) t n) c.fill_arcs.new.parts.taken.items) count in
     let most = c.in_ok-places.ensures.few in
     let few : length c.fill_arcs.new.parts.arcs.items + 3 ≤ 2 * c.in_ok-places.places = omega (arith, most, long) in
-    let is = is_take_graph {N = g.row.N} problem c.args.member c.args.goal.now c.args.node.now c.args.lens.now c.args.weights.now
-    c.requires.per_pairing c.requires.lens c.requires.windows c.requires.node items order chart charted
+    let is = is_take_graph {N = g.row.N} problem c.args.member c.args.node.now c.args.lens.now c.args.terms.now c.args.weights.now
+    c.requires.per_pairing c.requires.lens c.requires.plain c.requires.terms c.requires.windows c.requires.node items order chart charted
     c.take_start.result.second.first.bits c.take_start.ensures.bits c.end_label.result.1.0 c.end_label.ensures.bids
     (record { places = c.in_ok-places.places; start = c.take_start.result; end = c.end_label.result; arcs = c.fill_arcs.new.parts.arcs.items }) long c.take_start.ensures.start c.end_label.ensures.end
     c.fill_arcs.new.parts.taken.items c.in_ok-places.ensures.arcs c.fill_arcs.new.parts.adds.items adds few in

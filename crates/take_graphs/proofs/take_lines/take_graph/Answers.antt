@@ -1,4 +1,3 @@
-use Rattle.std.proofs.Common.{refl}
 use Rattle.take_graphs.proofs.take_lines.take_graph.Goals as goal
 
 pub returns-clause-stands : goal.returns-clause-stands

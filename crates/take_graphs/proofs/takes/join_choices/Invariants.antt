@@ -1,4 +1,4 @@
-use Rattle.std.proofs.Common.{◌≡◌, ◌*◌, ◌+◌, ◌<◌, ◌≤◌, length, vec_capacity}
+use Rattle.std.proofs.Common.{◌*◌, ◌+◌, ◌<◌, ◌≤◌, length, vec_capacity}
 use Rattle.std.specs.Prelude.{All}
 use Rattle.label_setter.specs.Graphs.{FitsPlaces}
 use Rattle.take_graphs.specs.Takes.{passes_by, takes_by, AreTakeArcsSo}

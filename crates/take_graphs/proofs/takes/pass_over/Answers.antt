@@ -1,9 +1,8 @@
-use Rattle.std.proofs.Common.{◌≡◌, ◌+◌, ◌<◌, ◌∷◌, ◌++◌, [], ℕ, false, List, arith, rules, refl, ap, sym, subst, ◌∙◌}
-use Rattle.std.proofs.Common.{FitsSigned, w64, to_z, of_z}
+use Rattle.std.proofs.Common.{◌≡◌, false, arith, rules, refl}
+use Rattle.std.proofs.Common.{FitsSigned, w64}
 use Rattle.std.proofs.lemmas.Int.{to_z-of_z}
 use Rattle.std.proofs.lemmas.List.Elements.{All-push}
 use Rattle.label_setter.specs.Graphs.{FitsPlaces}
-use Rattle.take_graphs.specs.Takes.{passes_by, takes_by, AreTakeArcsSo}
 use Rattle.take_graphs.proofs.TakeJoining.{passes_none, passes_on}
 use Rattle.take_graphs.proofs.takes.pass_over.Goals as goal
 

@@ -1,9 +1,8 @@
-use Rattle.std.proofs.Common.{◌≡◌, ◌+◌, ◌<◌, ◌∷◌, ◌++◌, [], ℕ, true, List, arith, rules, refl, ap, sym, subst, ◌∙◌}
-use Rattle.std.proofs.Common.{FitsSigned, w64, to_z, of_z}
+use Rattle.std.proofs.Common.{◌≡◌, true, arith, rules, refl}
+use Rattle.std.proofs.Common.{FitsSigned, w64}
 use Rattle.std.proofs.lemmas.Int.{to_z-of_z}
 use Rattle.std.proofs.lemmas.List.Elements.{All-push}
 use Rattle.label_setter.specs.Graphs.{FitsPlaces}
-use Rattle.take_graphs.specs.Takes.{passes_by, takes_by, AreTakeArcsSo}
 use Rattle.take_graphs.proofs.TakeJoining.{takes_none, takes_on}
 use Rattle.take_graphs.proofs.takes.take_item.Goals as goal
 
