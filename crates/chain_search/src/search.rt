@@ -227,6 +227,7 @@ pub fn climb_above<R: Resource, O: Order<R>, B: Rest<R> + Drop, L: Ledger>(
         → steps.old + chains ≤ steps.new) }
     ensures limit { IfOk result (λ climb. climb.ended ≡ Ended.Limit
         → steps.new ≡ steps.old + limit) }
+    ensures onward { IfOk result (λ climb. steps.old ≤ steps.new) }
     ensures steps { steps.new ≤ steps.old + limit }
 {
     let mut above = above;

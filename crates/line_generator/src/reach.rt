@@ -17,7 +17,7 @@ fn total(bids: &[Bid]) -> u32
 }
 
 /// What the bids of the member weigh together.
-fn bids_weight(problem: &Problem, member: u32) -> u32
+pub(crate) fn bids_weight(problem: &Problem, member: u32) -> u32
     requires member { member < length problem.now.base.members }
     ensures weight { result ≡ bids_weight problem.now member }
 {

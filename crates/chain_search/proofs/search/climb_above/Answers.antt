@@ -34,6 +34,7 @@ loop-next-preserved g c =
           (c.in_ok-chain_of-in-Comes.ensures.arcs ∙ ap (λ (xs : List _). take c.in-Some-pop.next.before xs ++ c.in-Some-pop.next.arc ∷ []) c.deref.ensures.value) c.in_ok-chain_of-in-Comes.ensures.gain;
       raised = same ∙ sym c.in_ok-chain_of-in-Comes.ensures.gain;
       wanted = omega (arith, wanted, more);
+      most = (let most = c.loop-next.invariant.most in omega (arith, most));
       few = (let few = c.loop-next.invariant.few in let smaller = c.in_ok-turn.ensures.smaller in let popped = c.in-Some-pop.ensures in omega (arith, few, smaller, wanted, popped));
       steps = omega (arith, before, steps);
     }

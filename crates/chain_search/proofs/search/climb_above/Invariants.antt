@@ -12,6 +12,7 @@ invariant-loop-next g l = record {
   found : IfSome l.best (IsAbove g.R.Resource.extend g.R.Resource.done l.graph l.fn.above.over);
   raised : l.above.over ≡ raised_to l.best l.fn.above.over;
   wanted : 0 < l.wanted;
+  most : l.wanted ≤ l.chains;
   few : l.walk.left + length l.walk.waiting.items + l.chains ≤ l.limit + l.wanted;
   steps : l.steps + l.walk.left ≡ l.fn.steps + l.limit;
 }
