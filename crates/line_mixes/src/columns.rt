@@ -3,6 +3,7 @@
 use crate::board::Row;
 use crate::kept::Kept;
 use crate::mix::{Share, weigh};
+use crate::pricing::Care;
 use duty_calendar::Memory;
 use roster_model::{Goal, Problem};
 use std::alloc::Global;
@@ -23,6 +24,7 @@ fn places_of(
     goal: &Goal,
     member: usize,
     row: &Row,
+    care: Care,
 ) -> Result<Vec<usize>, Memory> {
     let mut places = Vec::new(alloc);
     for place in (0..kept.len(member)).rev() {
@@ -32,7 +34,7 @@ fn places_of(
         if places.len() < MOST_COLUMNS
             && row.flown.is_within(&profile.pairings)
             && !row.barred.meets(&profile.pairings)
-            && profile.may_serve(goal, member)
+            && profile.may_serve(goal, member, care)
         {
             places.push(place)?;
         }
@@ -56,8 +58,9 @@ impl Columns {
         goal: &Goal,
         member: usize,
         row: &Row,
+        care: Care,
     ) -> Result<bool, Memory> {
-        let places = places_of(alloc, kept, goal, member, row)?;
+        let places = places_of(alloc, kept, goal, member, row, care)?;
         let is_some = !places.is_empty();
         self.places.push(places)?;
         Ok(is_some)

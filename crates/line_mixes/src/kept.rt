@@ -2,25 +2,32 @@
 ghost use Rattle.std.specs.Prelude.{◌≡◌, ◌<◌, IsTrue, length};
 ghost use Rattle.roster_model.specs.Scores.{bids_of};
 
-use crate::ladder::{first_lens, first_lenses, is_trackable};
+use crate::ladder::{first_lens, first_lenses, is_of_line, is_trackable};
 use crate::pairings::PairingSet;
+use crate::pricing::Care;
 use bid_score::{granted, score};
 use column_pool::Pool;
 use duty_calendar::{Copied, List, Memory};
 use line_generator::are_known;
 use line_legality::{Illegal, legal};
-use roster_model::{Goal, Lens, Line, Problem};
+use roster_model::{Bid, Goal, Lens, Line, Problem};
 use std::alloc::Global;
 
-/// What is known of a kept line: its pairings, its bids that it grants and may grant, what these weigh, and the rule that
-/// it breaks, if any. A line may grant what it grants, and each bid that a lens can't track.
+/// Some bids, and what they weigh.
+#[derive(Clone, Copy)]
+pub struct Granted {
+    bids: u64,
+    score: u32,
+}
+
+/// What is known of a kept line: its pairings, the bids that it grants, and the rule that it breaks, if any. To a lens that
+/// looks at whole lines, and to one that looks at pairings one by one, it may grant more: each bid that can't be tracked.
 #[derive(Clone, Copy)]
 pub struct Profile {
     pub pairings: PairingSet,
-    pub grants: u64,
-    pub may_grant: u64,
-    pub score: u32,
-    pub may_score: u32,
+    pub grants: Granted,
+    pub by_lines: Granted,
+    pub by_pairings: Granted,
     pub broken: Option<Illegal>,
 }
 
@@ -79,32 +86,35 @@ fn broken(
 fn known_of(problem: &Problem, member: u32, line: &Line, pairings: PairingSet) -> Profile {
     let mut profile = Profile {
         pairings,
-        grants: 0,
-        may_grant: 0,
-        score: 0,
-        may_score: 0,
+        grants: Granted::nothing(),
+        by_lines: Granted::nothing(),
+        by_pairings: Granted::nothing(),
         broken: None,
     };
-    let Some(bids) = problem.bids.as_slice().get(member as usize) else {
+    let (Some(owner), Some(bids)) = (
+        problem.base.members.as_slice().get(member as usize),
+        problem.bids.as_slice().get(member as usize),
+    ) else {
         return profile;
     };
     for (place, bid) in bids.as_slice().iter().enumerate() {
-        let grants = is_granted(problem, member, number(place), line);
-        let bit = bit_of(place);
-        if grants {
-            profile.grants |= bit;
-            profile.score = profile.score.saturating_add(bid.weight);
+        let is_sure = is_granted(problem, member, number(place), line);
+        let is_seen = is_trackable(&bid.wish);
+        if is_sure {
+            profile.grants.add(place, bid);
         }
-        if grants || !is_trackable(&bid.wish) {
-            profile.may_grant |= bit;
-            profile.may_score = profile.may_score.saturating_add(bid.weight);
+        if is_sure || !is_seen && !is_of_line(problem, owner, &bid.wish) {
+            profile.by_lines.add(place, bid);
+        }
+        if is_sure || !is_seen {
+            profile.by_pairings.add(place, bid);
         }
     }
     profile
 }
 
 /// The bit of a bid.
-fn bit_of(bid: usize) -> u64 {
+pub(crate) fn bit_of(bid: usize) -> u64 {
     if bid < 64 { 1u64 << bid } else { 0 }
 }
 
@@ -155,23 +165,38 @@ impl Flat {
     }
 }
 
-impl Profile {
-    /// Whether the line is legal.
-    fn is_legal(&self) -> bool {
-        self.broken.is_none()
+impl Granted {
+    /// No bids.
+    fn nothing() -> Granted {
+        Granted { bids: 0, score: 0 }
     }
 
-    /// Whether a relaxation of the goal may use the line: it is legal, and reaches the floor and grants the bid if the
-    /// bids that can't be tracked count as granted.
-    pub fn may_serve(&self, goal: &Goal, member: usize) -> bool {
-        let floor = floor_of(goal, member);
-        self.is_legal() && self.may_score >= floor && bid_asked(goal, member) & !self.may_grant == 0
+    /// Adds a bid by its place.
+    fn add(&mut self, place: usize, bid: &Bid) {
+        self.bids |= bit_of(place);
+        self.score = self.score.saturating_add(bid.weight);
+    }
+
+    /// Whether these bids meet the member's part of the goal.
+    fn meets(&self, goal: &Goal, member: usize) -> bool {
+        self.score >= floor_of(goal, member) && bid_asked(goal, member) & !self.bids == 0
+    }
+}
+
+impl Profile {
+    /// Whether a relaxation of the goal may use the line: it is legal, and meets the goal if the bids that its lenses don't
+    /// track count as granted.
+    pub fn may_serve(&self, goal: &Goal, member: usize, care: Care) -> bool {
+        let may_grant = match care {
+            Care::Fine | Care::Rough => &self.by_lines,
+            Care::Plain => &self.by_pairings,
+        };
+        self.broken.is_none() && may_grant.meets(goal, member)
     }
 
     /// Whether the line is legal, and meets the goal.
     pub fn serves(&self, goal: &Goal, member: usize) -> bool {
-        let floor = floor_of(goal, member);
-        self.is_legal() && self.score >= floor && bid_asked(goal, member) & !self.grants == 0
+        self.broken.is_none() && self.grants.meets(goal, member)
     }
 }
 
@@ -184,7 +209,7 @@ pub(crate) fn floor_of(goal: &Goal, member: usize) -> u32 {
 }
 
 /// The bit of the goal's bid, where that is the member's.
-fn bid_asked(goal: &Goal, member: usize) -> u64 {
+pub(crate) fn bid_asked(goal: &Goal, member: usize) -> u64 {
     match goal.grant {
         Some(bid) => {
             if bid.member as usize == member {

@@ -1,8 +1,9 @@
 //! Lenses that look at more and more.
 
-use duty_calendar::{List, Memory};
+use crate::kept::{bid_asked, bit_of, floor_of};
+use duty_calendar::{List, Member, Memory};
 use line_legality::Illegal;
-use roster_model::{Lens, Problem, Window, WindowKind, Wish};
+use roster_model::{Bid, Goal, Lens, Problem, Window, WindowKind, Wish};
 use std::alloc::Global;
 
 /// How many windows a lens may look at.
@@ -10,6 +11,9 @@ const MOST_WINDOWS: usize = 16;
 
 /// With how many windows a search begins at most: labels that count more are dear.
 const FIRST_WINDOWS: usize = 4;
+
+/// How many bids that only a whole line decides a lens may track.
+const MOST_WHOLE: u32 = 8;
 
 /// Whether one pairing of a line can decide the wish.
 pub(crate) fn is_trackable(wish: &Wish) -> bool {
@@ -33,6 +37,78 @@ fn trackable_bids(problem: &Problem, member: usize) -> u64 {
     tracked
 }
 
+/// Whether the wish is about the whole line's credit or days off, and some legal lines of the member may not grant it.
+pub(crate) fn is_of_line(problem: &Problem, member: &Member, wish: &Wish) -> bool {
+    match wish {
+        Wish::CreditBelow(minutes) => *minutes <= member.high,
+        Wish::CreditAbove(minutes) => *minutes >= member.low,
+        Wish::DaysOff(days) => *days > problem.base.rules.days_off,
+        Wish::Fly(_) | Wish::Avoid(_) | Wish::Off(_, _) | Wish::Prefer(_, _) => false,
+    }
+}
+
+/// The bit of the heaviest of some bids.
+fn heaviest(bids: &[Bid], among: u64) -> u64 {
+    let mut best = 0;
+    let mut most = 0;
+    for (number, bid) in bids.iter().enumerate() {
+        let bit = bit_of(number);
+        if among & bit != 0 && (best == 0 || bid.weight > most) {
+            best = bit;
+            most = bid.weight;
+        }
+    }
+    best
+}
+
+/// The member's bids about whole lines that some legal lines may not grant.
+fn bids_of_line(problem: &Problem, member: usize) -> u64 {
+    let mut set = 0;
+    if let (Some(owner), Some(bids)) = (
+        problem.base.members.as_slice().get(member),
+        problem.bids.as_slice().get(member),
+    ) {
+        for (number, bid) in bids.as_slice().iter().enumerate() {
+            if is_of_line(problem, owner, &bid.wish) {
+                set |= bit_of(number);
+            }
+        }
+    }
+    set
+}
+
+/// The bids about whole lines that a lens for the goal is to track: the goal's own, and the heaviest where there is a
+/// floor to be reached.
+fn tracked_of_line(problem: &Problem, member: usize, goal: &Goal) -> u64 {
+    let all = bids_of_line(problem, member);
+    let mut tracked = all & bid_asked(goal, member);
+    let Some(bids) = problem.bids.as_slice().get(member) else {
+        return tracked;
+    };
+    if floor_of(goal, member) == 0 {
+        return tracked;
+    }
+    for _ in 0..MOST_WHOLE {
+        if tracked.count_ones() < MOST_WHOLE {
+            tracked |= heaviest(bids.as_slice(), all & !tracked);
+        }
+    }
+    tracked
+}
+
+/// Lets the lens look at pairings one by one.
+pub(crate) fn look_at_pairings(problem: &Problem, member: usize, lens: &mut Lens) {
+    lens.tracked = trackable_bids(problem, member);
+    lens.whole = false;
+}
+
+/// Lets the lens look at whole lines too, if bids about them matter for the goal.
+pub(crate) fn look_at_lines(problem: &Problem, member: usize, goal: &Goal, lens: &mut Lens) {
+    let tracked = tracked_of_line(problem, member, goal);
+    lens.tracked = trackable_bids(problem, member) | tracked;
+    lens.whole = tracked != 0;
+}
+
 /// The first lens of the ladder: credit in hours, and all bids that can be tracked.
 pub fn first_lens(alloc: Global, problem: &Problem, member: usize) -> Lens {
     Lens {
@@ -40,6 +116,7 @@ pub fn first_lens(alloc: Global, problem: &Problem, member: usize) -> Lens {
         tracked: trackable_bids(problem, member),
         free30: false,
         days: false,
+        whole: false,
         windows: List::new(alloc),
     }
 }
@@ -75,6 +152,7 @@ pub(crate) fn lately(alloc: Global, lens: &Lens) -> Result<Lens, Memory> {
         tracked: lens.tracked,
         free30: lens.free30,
         days: lens.days,
+        whole: lens.whole,
         windows,
     })
 }
@@ -87,7 +165,7 @@ fn set(flag: &mut bool) -> bool {
 }
 
 /// Makes the grain finer, and tells whether it could be.
-fn make_finer(grain: &mut u32) -> bool {
+pub(crate) fn make_finer(grain: &mut u32) -> bool {
     let finer = match *grain {
         60 => 15,
         15 => 5,

@@ -4,7 +4,7 @@ ghost use Rattle.roster_model.specs.Goals.{IsGoal};
 
 use crate::board::Row;
 use crate::kept::{Kept, number};
-use crate::ladder::{first_lens, lately, refine};
+use crate::ladder::{first_lens, lately, look_at_lines, look_at_pairings, make_finer, refine};
 use crate::tested::row_over;
 use duty_calendar::Memory;
 use line_generator::{Over, PricedLine};
@@ -18,11 +18,13 @@ const SHALLOW: u64 = 20_000;
 /// How often a lens is made to look at more.
 const MOST_RUNGS: u32 = 24;
 
-/// How much care is taken: in the guess at a node, or in guesses at rosters.
+/// How much care is taken: in the guess at a node, in guesses at rosters, or in a guess at a node by lenses that look at
+/// pairings one by one.
 #[derive(Clone, Copy, PartialEq, Eq)]
 pub enum Care {
     Fine,
     Rough,
+    Plain,
 }
 
 /// What is found above a bound.
@@ -40,7 +42,7 @@ impl Care {
     /// How many steps a search may take.
     pub fn steps(self) -> u64 {
         match self {
-            Care::Fine => DEEP,
+            Care::Fine | Care::Plain => DEEP,
             Care::Rough => SHALLOW,
         }
     }
@@ -48,19 +50,47 @@ impl Care {
     /// What counts as no miss.
     pub fn little(self) -> i64 {
         match self {
-            Care::Fine => 256,
+            Care::Fine | Care::Plain => 256,
             Care::Rough => 2_048,
+        }
+    }
+
+    /// Lets the lens track what lenses of this care do.
+    fn adjust(self, problem: &Problem, member: usize, goal: &Goal, lens: &mut Lens) {
+        match self {
+            Care::Fine | Care::Rough => look_at_lines(problem, member, goal, lens),
+            Care::Plain => look_at_pairings(problem, member, lens),
         }
     }
 }
 
-/// Keeps a line that was found. Answers that it is to serve, or lets the lens look at the rule that it breaks; the
-/// member's searches begin with what the lens saw lately from then on, or with the first one where it can't see more.
+/// Lets the lens look at the rule that the line breaks, or more closely at credit where the line is legal and misses the
+/// goal. Tells whether it did not before; none where the line is to serve.
+fn sharpen(
+    kept: &Kept,
+    member: usize,
+    goal: &Goal,
+    care: Care,
+    lens: &mut Lens,
+    place: usize,
+) -> Option<bool> {
+    let profile = kept.profile(member, place)?;
+    match profile.broken {
+        Some(why) => Some(refine(lens, why)),
+        None if profile.may_serve(goal, member, care) => None,
+        None => Some(make_finer(&mut lens.grain)),
+    }
+}
+
+/// Keeps a line that was found. Answers that it is to serve, or lets the lens look at why it is not; the member's searches
+/// begin with what the lens saw lately from then on, or with the first one where it can't see more.
 fn look(
     alloc: Global,
     problem: &Problem,
     kept: &mut Kept,
     member: usize,
+    goal: &Goal,
+    care: Care,
     lens: &mut Lens,
     priced: PricedLine,
 ) -> Result<(Option<Priced>, bool), Memory> {
@@ -68,10 +98,9 @@ fn look(
         return Ok((None, true));
     };
     let found = Some(Priced::Line(place, priced.weight));
-    let Some(why) = kept.broken(member, place) else {
+    let Some(is_finer) = sharpen(kept, member, goal, care, lens, place) else {
         return Ok((found, true));
     };
-    let is_finer = refine(lens, why);
     if is_finer {
         kept.look_through(member, lately(alloc, lens)?);
     } else {
@@ -96,6 +125,7 @@ fn price_from(
     requires goal { IsGoal problem.now goal.now }
 {
     let mut lens = lens;
+    care.adjust(problem, member, goal, &mut lens);
     let mut found = Priced::Unknown;
     for _ in 0..MOST_RUNGS {
         let steps = care.steps();
@@ -115,7 +145,7 @@ fn price_from(
             Over::Nothing => return Ok(Priced::Nothing(lens)),
             Over::Limit => return Ok(found),
         };
-        let (next, is_last) = look(alloc, problem, kept, member, &mut lens, priced)?;
+        let (next, is_last) = look(alloc, problem, kept, member, goal, care, &mut lens, priced)?;
         if let Some(next) = next {
             found = next;
         }

@@ -23,7 +23,7 @@ use Rattle.month_award.proofs.Lengths.{three-digits, words-more, words-one, line
 
 -- how long the text of a leaf is at most with the lines of its lenses, and that of a split
 unfoldable pub leaf_most : ℕ
-leaf_most = 55415
+leaf_most = 55615
 
 unfoldable pub split_most : ℕ
 split_most = 30

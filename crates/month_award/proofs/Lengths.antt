@@ -13,7 +13,7 @@ use Rattle.roster_model.specs.declared.proof.WindowKind.TheVariants.{Flight672, 
 use Rattle.roster_model.specs.Weights.{IsSmallWeight}
 use Rattle.cert_text.proofs.KeyLaws.{IsPlaced, place_new, placed, after_length}
 use Rattle.cert_text.specs.Fields.{kind_word, is_zero}
-use Rattle.cert_text.specs.Spelling.{spaced, words_text, line_text, index_text, flag_text, weight_text, hex_digit, hex_text, bits_text, window_text, lens_words, lens_key, is_kept, with_key, place_in, number_text, numbers_text, keys_after, entry_text, entries_text, key_line}
+use Rattle.cert_text.specs.Spelling.{spaced, words_text, line_text, index_text, flag_text, weight_text, hex_digit, hex_text, bits_text, window_text, lens_words, lens_word, lens_key, is_kept, with_key, place_in, number_text, numbers_text, keys_after, entry_text, entries_text, key_line}
 use Rattle.month_award.proofs.Numbers.{HasSmallNumbers}
 
 pub number-length : (n : ℕ) → n < 2 ^ 32 → length (decimal n) ≤ 10
@@ -135,12 +135,21 @@ lens-words lens small =
 
 -- ---- lenses by their words
 
-key-length : (lens : Lens) → HasSmallNumbers lens → length (key_line (lens_key lens)) ≤ 221
+word-length : (looks : Bool) → length (lens_word looks) ≤ 5
+word-length true = let five : length (codes "whole") ≡ 5 = refl in omega (arith, five)
+word-length false = let four : length (codes "lens") ≡ 4 = refl in omega (arith, four)
+
+key-length : (lens : Lens) → HasSmallNumbers lens → length (key_line (lens_key lens)) ≤ 222
 unfolding lens_key
 key-length lens small =
-    let key = words_text (lens_words lens) in
-    let four : length (codes "lens") ≡ 4 = refl in
-    omega (arith, four, length-append (codes "lens") (key ++ 10 ∷ []), length-append key (10 ∷ []), lens-words lens small)
+    let words = words_text (lens_words lens) in
+    omega (
+      arith,
+      word-length lens.whole,
+      length-append (lens_word lens.whole) words,
+      length-append (lens_word lens.whole ++ words) (10 ∷ []),
+      lens-words lens small,
+    )
 
 -- a lens is one of those that were used, or the next one
 place-within : (keys : List (List ℕ)) (key : List ℕ) → place_in keys key ≤ length keys
@@ -171,10 +180,10 @@ abbrev pub lens_lines : List (List ℕ) → List ℕ
 lens_lines keys = flat_map key_line keys
 
 line-more : (keys : List (List ℕ)) (lens : Lens) → HasSmallNumbers lens
-    → length (lens_lines (with_key keys (lens_key lens))) ≤ length (lens_lines keys) + 221
+    → length (lens_lines (with_key keys (lens_key lens))) ≤ length (lens_lines keys) + 222
 line-more keys lens small = by_test (is_kept keys (lens_key lens)) refl
   where
-    by_test : (b : Bool) → is_kept keys (lens_key lens) ≡ b → length (lens_lines (with_key keys (lens_key lens))) ≤ length (lens_lines keys) + 221
+    by_test : (b : Bool) → is_kept keys (lens_key lens) ≡ b → length (lens_lines (with_key keys (lens_key lens))) ≤ length (lens_lines keys) + 222
     by_test true e =
         let same = ap (λ (b : Bool). length (lens_lines (cond b keys (keys ++ lens_key lens ∷ [])))) e in
         omega (arith, same)
@@ -191,7 +200,7 @@ line-more keys lens small = by_test (is_kept keys (lens_key lens)) refl
         )
 
 pub lines-more : (keys : List (List ℕ)) (lenses : List Lens) → All HasSmallNumbers lenses
-    → length (lens_lines (keys_after keys lenses)) ≤ length (lens_lines keys) + length lenses * 221
+    → length (lens_lines (keys_after keys lenses)) ≤ length (lens_lines keys) + length lenses * 222
 lines-more keys [] small = omega arith
 lines-more keys (lens ∷ lenses) small =
     let first = line-more keys lens (All-head HasSmallNumbers lens lenses small) in

@@ -1,5 +1,5 @@
 -- The numbers of lenses and items are within the limits of certificates.
-use Rattle.std.proofs.Common.{◌≡◌, ℕ, zero, suc, ◌+◌, ◌*◌, ◌/◌, ◌%◌, ◌^◌, ◌<◌, ◌≤◌, Bool, true, false, ◌||◌, ◌==◌, List, [], ◌∷◌, length, Some, None, refl, sym, ap, ◌∙◌, arith, inl, inr, mod-lt, div-add-mod', zero-mul, pow_pos, shr-shr}
+use Rattle.std.proofs.Common.{◌≡◌, ℕ, zero, suc, ◌+◌, ◌*◌, ◌/◌, ◌%◌, ◌^◌, ◌<◌, ◌≤◌, Bool, true, false, ◌||◌, ◌&&◌, ◌==◌, List, [], ◌∷◌, length, Some, None, refl, sym, ap, ◌∙◌, arith, inl, inr, mod-lt, div-add-mod', zero-mul, pow_pos, shr-shr}
 use Rattle.std.specs.Prelude.{All, nat_lt, nat_le, slice_get, unwrap_or, ℤ, pos, negsuc}
 use Rattle.std.specs.List.{list_all}
 use Rattle.std.specs.Int.{bit_at}
@@ -13,6 +13,7 @@ use Rattle.std.proofs.lemmas.Nat.Bits.{bit_at_lowest, bit_at-suc, bit_at-lt}
 use Rattle.std.proofs.lemmas.Option.{slice_get_past}
 use Rattle.jiff_core.proofs.CalendarLemmas.{days_in_month_bounds}
 use Rattle.duty_calendar.specs.Calendar.{month_days}
+use Rattle.duty_calendar.specs.Minutes.{count_between}
 use Rattle.roster_model.specs.declared.bid.Bid.{Bid}
 use Rattle.roster_model.specs.declared.problem.Problem.{Problem}
 use Rattle.roster_model.specs.declared.proof.Lens.{Lens}
@@ -20,7 +21,7 @@ use Rattle.roster_model.specs.declared.proof.WindowKind.{WindowKind}
 use Rattle.roster_model.specs.declared.proof.WindowKind.TheVariants.{Flight672, Duty672, Duty168, Flight365}
 use Rattle.roster_model.specs.Scores.{bids_of}
 use Rattle.roster_model.specs.Weights.{IsSmallWeight}
-use Rattle.roster_model.specs.Lenses.{IsLens, IsInstance, is_grain, is_tracked, is_trackable, has_trackable}
+use Rattle.roster_model.specs.Lenses.{IsLens, IsInstance, is_grain, is_tracked, is_trackable, is_whole, is_whole_tracked, may_track}
 use Rattle.cert_text.specs.declared.limits.TheConstants.{LAST_INDEX, LAST_MINUTE, GREATEST_WEIGHT, MOST_WINDOWS}
 use Rattle.cert_text.specs.Limits.{is_few, is_index, is_weight, is_window, is_lens}
 
@@ -50,16 +51,22 @@ few_bids [] m few = omega arith
 few_bids (x ∷ xs) zero few = All-head (λ (list : List Bid). length list ≤ 64) x xs few
 few_bids (x ∷ xs) (suc m) few = few_bids xs m (All-tail (λ (list : List Bid). length list ≤ 64) x xs few)
 
-not_trackable : (problem : Problem) (member bid : ℕ) → 64 ≤ bid → has_trackable problem member bid ≡ false
-not_trackable problem member bid far =
+no_kind : (looks few : Bool) → (false || (looks && (false && few))) ≡ false
+no_kind true few = refl
+no_kind false few = refl
+
+not_trackable : (problem : Problem) (member : ℕ) (lens : Lens) (bid : ℕ) → 64 ≤ bid → may_track problem member lens bid ≡ false
+not_trackable problem member lens bid far =
+    let few : Bool = nat_lt (count_between (is_whole_tracked problem member lens) 0 bid) 8 in
     let past : slice_get (bids_of problem member) bid ≡ None =
     slice_get_past (bids_of problem member) bid (omega (arith, far, few_bids problem.bids member problem.valid.few_bids)) in
-    ap (λ o. option_map_or (λ (b : Bid). is_trackable b.wish) o false) past
+    ap (λ o. option_map_or (λ (b : Bid). is_trackable b.wish) o false || (lens.whole && (option_map_or (λ (b : Bid). is_whole b.wish) o false && few))) past
+    ∙ no_kind lens.whole few
 
 tracked-fits : (problem : Problem) (member : ℕ) (lens : Lens) → IsLens problem member lens → lens.tracked < 2 ^ 64
 tracked-fits problem member lens shape = below_by_bits lens.tracked 64 (λ i far.
     elim (cases_eq (bit_at lens.tracked i) 1) [
-      | inl one ↦ absurd (false≢true (sym (not_trackable problem member i far) ∙ shape.trackable i (eq-eqb (bit_at lens.tracked i) 1 one)))
+      | inl one ↦ absurd (false≢true (sym (not_trackable problem member lens i far) ∙ shape.trackable i (eq-eqb (bit_at lens.tracked i) 1 one)))
       | inr other ↦ omega (arith, bit_at-lt lens.tracked i, other)
     ])
 

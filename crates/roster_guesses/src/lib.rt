@@ -11,6 +11,6 @@ mod wholes;
 pub use chance::Chance;
 pub use diving::dive;
 pub use known::{AllKnown, Known};
-pub use relaxing::{Bounded, Relaxed, plainer, relax};
+pub use relaxing::{Bounded, Relaxed, plainer, plainer_without_line, relax};
 pub use repairing::repair;
 pub use wholes::whole_of;

@@ -132,7 +132,7 @@ fn gather(
 {
     let mut columns = Columns::new(alloc);
     for member in 0..problem.base.members.len() {
-        if columns.append(alloc, kept, goal, member, &board.row(member))? {
+        if columns.append(alloc, kept, goal, member, &board.row(member), care)? {
             continue;
         }
         match first_line(alloc, problem, kept, goal, board, member, care)? {
@@ -264,36 +264,77 @@ pub(crate) fn test(
     }))
 }
 
-/// Looks for a line of the member above the bound, by a ladder that begins with the first lens. Where there is none, the
-/// leaf has the lens that shows it.
-fn look_again(
+/// A lens under which the member has no line above the bound, by a ladder of this care that begins with the first lens.
+fn lens_again(
     alloc: Global,
     problem: &Problem,
     kept: &mut Kept,
     goal: &Goal,
     row: &Row,
+    weights: &[i64],
     member: usize,
     over: i64,
-    leaf: &mut Bounded,
-) -> Result<(), Memory>
+    care: Care,
+) -> Result<Option<Lens>, Memory>
     requires goal { IsGoal problem.now goal.now }
 {
-    let weights = &leaf.weights;
-    let care = Care::Fine;
     let priced = price_afresh(alloc, problem, kept, member, goal, row, weights, over, care)?;
-    if let Priced::Nothing(lens) = priced {
-        if member < leaf.lenses.len() {
-            *leaf.lenses.at_mut(member) = lens;
-        }
+    match priced {
+        Priced::Nothing(lens) => Ok(Some(lens)),
+        Priced::Line(_, _) | Priced::Unknown => Ok(None),
     }
-    Ok(())
 }
 
-/// Whether the member's lens of the leaf sees more than the first one.
-fn sees_more(leaf: &Bounded, member: usize) -> bool {
-    match leaf.lenses.as_slice().get(member) {
-        Some(lens) => !is_first(lens),
-        None => false,
+/// A lens that sees less than this one, and by which the member has no line above the bound either: one that looks at
+/// pairings one by one, if it can be.
+fn plainer_lens(
+    alloc: Global,
+    problem: &Problem,
+    kept: &mut Kept,
+    goal: &Goal,
+    row: &Row,
+    weights: &[i64],
+    member: usize,
+    over: i64,
+    lens: &Lens,
+) -> Result<Option<Lens>, Memory>
+    requires goal { IsGoal problem.now goal.now }
+{
+    if is_first(lens) && !lens.whole {
+        return Ok(None);
+    }
+    let care = Care::Plain;
+    let plain = lens_again(alloc, problem, kept, goal, row, weights, member, over, care)?;
+    if plain.is_some() || is_first(lens) || !lens.whole {
+        return Ok(plain);
+    }
+    let care = Care::Fine;
+    lens_again(alloc, problem, kept, goal, row, weights, member, over, care)
+}
+
+/// The lens of a member without a line at the node, or one that sees less.
+pub fn plainer_without_line(
+    alloc: Global,
+    problem: &Problem,
+    kept: &mut Kept,
+    goal: &Goal,
+    board: &Board,
+    member: usize,
+    lens: Lens,
+) -> Result<Lens, Memory>
+    requires goal { IsGoal problem.now goal.now }
+{
+    if !lens.whole {
+        return Ok(lens);
+    }
+    let weights = vec![in alloc; 0i64; problem.base.pairings.len()]?;
+    let row = board.row(member);
+    let plainer = plainer_lens(
+        alloc, problem, kept, goal, &row, &weights, member, -1, &lens,
+    )?;
+    match plainer {
+        Some(plainer) => Ok(plainer),
+        None => Ok(lens),
     }
 }
 
@@ -311,13 +352,21 @@ pub fn plainer(
     let mut leaf = leaf;
     let slack = weighed(problem, &leaf.bounds, &leaf.weights).slack;
     for member in 0..problem.base.members.len() {
-        if !sees_more(&leaf, member) {
+        let Some(lens) = leaf.lenses.as_slice().get(member) else {
             continue;
-        }
+        };
         let bound = leaf.bounds.get(member).copied().unwrap_or(0);
         let over = bound.wrapping_add(1).wrapping_add(slack);
         let row = board.row(member);
-        look_again(alloc, problem, kept, goal, &row, member, over, &mut leaf)?;
+        let weights = &leaf.weights;
+        let plainer = plainer_lens(
+            alloc, problem, kept, goal, &row, weights, member, over, lens,
+        )?;
+        if let Some(plainer) = plainer {
+            if member < leaf.lenses.len() {
+                *leaf.lenses.at_mut(member) = plainer;
+            }
+        }
     }
     Ok(leaf)
 }

@@ -1,4 +1,3 @@
-use Rattle.roster_model.specs.Rounds.{IsRound}
 use Rattle.weight_certificates.proofs.closing.whole_roster.Goals as goal
 
 pub is_whole-requires-clause-round : goal.is_whole-requires-clause-round

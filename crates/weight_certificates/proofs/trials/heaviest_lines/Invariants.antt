@@ -1,4 +1,4 @@
-use Rattle.std.proofs.Common.{◌≡◌, ℕ, ◌<◌, length}
+use Rattle.std.proofs.Common.{◌≡◌, ℕ, ◌<◌}
 use Rattle.std.specs.Prelude.{Some, slice_get}
 use Rattle.roster_model.specs.declared.proof.Lens.{Lens}
 use Rattle.roster_model.specs.Lenses.{IsLens}

@@ -1,0 +1,247 @@
+//! Trees that close a goal by lenses that look at pairings one by one, where a few splits do.
+ghost use Rattle.std.specs.Prelude.{◌≡◌};
+ghost use Rattle.roster_model.specs.Goals.{IsGoal};
+
+use crate::guess::{Guess, mixed_of};
+use crate::guide::{Guide, MIXES};
+use crate::pairs::branch_pair;
+use duty_calendar::Memory;
+use line_mixes::{Board, Care, Kept, Mix, Priced, number, price};
+use roster_guesses::{Relaxed, plainer, relax};
+use roster_model::{Decision, Goal, Node, Problem};
+use std::alloc::Global;
+
+/// How many nodes a tree may have: those that are split, and their leaves.
+const MOST_NODES: usize = 25;
+
+/// How many nodes are split at most.
+const MOST_SPLITS: usize = 12;
+
+/// A guess at the node of so many decisions.
+#[derive(Drop)]
+pub(crate) struct Planned {
+    depth: usize,
+    guess: Guess,
+}
+
+/// What a plan says of a node.
+#[derive(Drop)]
+enum Planning {
+    /// The decisions alone close it.
+    Decided,
+    /// This closes it.
+    Leaf(Guess),
+    /// This leaves it open, and it is split by a decision.
+    Split(Guess, Decision),
+    /// Nothing was found.
+    Lost,
+}
+
+/// Whether there is a node to go on with.
+#[derive(Clone, Copy)]
+enum Going {
+    On,
+    Done,
+    Lost,
+}
+
+/// A tree that grows node by node: the next node, the guesses so far, and how many nodes are split.
+#[derive(Drop)]
+struct Tree {
+    node: Node,
+    plan: Vec<Planned>,
+    splits: usize,
+}
+
+impl Tree {
+    /// Adds a guess at the node.
+    fn push(&mut self, guess: Guess) -> Result<(), Memory> {
+        let depth = self.node.len();
+        self.plan.push(Planned { depth, guess })?;
+        Ok(())
+    }
+
+    /// Leaves the node, which is closed.
+    fn turn(&mut self) -> Going {
+        if self.node.turn() {
+            Going::On
+        } else {
+            Going::Done
+        }
+    }
+
+    /// Adds what there is to say of the node.
+    fn add(&mut self, planning: Planning) -> Result<Going, Memory> {
+        match planning {
+            Planning::Decided => Ok(self.turn()),
+            Planning::Leaf(guess) => {
+                self.push(guess)?;
+                Ok(self.turn())
+            }
+            Planning::Split(guess, decision) => {
+                self.push(guess)?;
+                self.splits = self.splits.saturating_add(1);
+                if self.splits > MOST_SPLITS || self.node.decide(decision).is_err() {
+                    return Ok(Going::Lost);
+                }
+                Ok(Going::On)
+            }
+            Planning::Lost => Ok(Going::Lost),
+        }
+    }
+}
+
+/// Takes the next guess, if it is for a node of so many decisions; else all are dropped.
+pub(crate) fn next_planned(plan: &mut Vec<Planned>, depth: usize) -> Option<Guess> {
+    let next = plan.pop()?;
+    if next.depth != depth {
+        plan.truncate(0);
+        return None;
+    }
+    Some(next.guess)
+}
+
+/// Whether the guess needs a lens that looks at whole lines.
+pub(crate) fn looks_at_lines(guess: &Guess) -> bool {
+    match guess {
+        Guess::Bounded(leaf) => leaf.lenses.as_slice().iter().any(|lens| lens.whole),
+        Guess::NoLine(_, lens) => lens.whole,
+        Guess::Whole(_) | Guess::Mixed(_) | Guess::Nothing => false,
+    }
+}
+
+/// Whether all of the member is decided, and that does not serve.
+fn is_misfit(
+    alloc: Global,
+    problem: &Problem,
+    kept: &mut Kept,
+    goal: &Goal,
+    board: &Board,
+    member: usize,
+) -> Result<bool, Memory>
+    requires goal { IsGoal problem.now goal.now }
+{
+    let pairings = problem.base.pairings.len();
+    let row = board.row(member);
+    if !row.is_whole(pairings) {
+        return Ok(false);
+    }
+    let weights = vec![in alloc; 0i64; pairings]?;
+    let care = Care::Fine;
+    match price(alloc, problem, kept, member, goal, &row, &weights, -1, care)? {
+        Priced::Line(place, _) => match kept.profile(member, place) {
+            Some(profile) => Ok(!profile.serves(goal, member)),
+            None => Ok(false),
+        },
+        Priced::Nothing(_) => Ok(true),
+        Priced::Unknown => Ok(false),
+    }
+}
+
+/// Whether crews or decided lines close the node.
+fn is_decided(
+    alloc: Global,
+    problem: &Problem,
+    kept: &mut Kept,
+    goal: &Goal,
+    board: &Board,
+) -> Result<bool, Memory>
+    requires goal { IsGoal problem.now goal.now }
+{
+    if board.has_miscrewed(problem) {
+        return Ok(true);
+    }
+    for member in 0..problem.base.members.len() {
+        if is_misfit(alloc, problem, kept, goal, board, member)? {
+            return Ok(true);
+        }
+    }
+    Ok(false)
+}
+
+impl Guide {
+    /// The split of a node that the mix leaves open.
+    fn split(
+        &mut self,
+        alloc: Global,
+        problem: &Problem,
+        goal: &Goal,
+        board: &Board,
+        mix: Mix,
+    ) -> Result<Planning, Memory> {
+        let pair = branch_pair(alloc, problem, &self.kept, goal, board, &mix)?;
+        let mixed = mixed_of(alloc, problem, &self.kept, &mix, pair)?;
+        self.mixes.push(mix)?;
+        let Some((member, pairing)) = pair else {
+            return Ok(Planning::Lost);
+        };
+        let decision = Decision {
+            member: number(member),
+            pairing: number(pairing),
+            flies: true,
+        };
+        Ok(Planning::Split(Guess::Mixed(mixed), decision))
+    }
+
+    /// What lenses that look at pairings one by one say of the node.
+    fn planned(
+        &mut self,
+        alloc: Global,
+        problem: &Problem,
+        goal: &Goal,
+        board: &Board,
+        depth: usize,
+    ) -> Result<Planning, Memory>
+        requires goal { IsGoal problem.now goal.now }
+    {
+        self.mixes.truncate(depth);
+        let kept = &mut self.kept;
+        if is_decided(alloc, problem, kept, goal, board)? {
+            return Ok(Planning::Decided);
+        }
+        let warm = self.mixes.last();
+        let relaxed = relax(alloc, problem, kept, goal, board, warm, MIXES, Care::Plain)?;
+        let mix = match relaxed {
+            Relaxed::Open(mix) => mix,
+            Relaxed::Bounded(leaf) => {
+                let leaf = plainer(alloc, problem, kept, goal, board, leaf)?;
+                return Ok(Planning::Leaf(Guess::Bounded(leaf)));
+            }
+            Relaxed::NoLine(member, lens) => {
+                return Ok(Planning::Leaf(Guess::NoLine(member, lens)));
+            }
+            Relaxed::Miscrewed | Relaxed::Unknown => return Ok(Planning::Lost),
+        };
+        self.split(alloc, problem, goal, board, mix)
+    }
+
+    /// What there is to say of the nodes of a tree that closes the goal by lenses that look at pairings one by one, the
+    /// root's last; nothing where none was found that is small.
+    pub(crate) fn plan(
+        &mut self,
+        alloc: Global,
+        problem: &Problem,
+        goal: &Goal,
+    ) -> Result<Vec<Planned>, Memory>
+        requires goal { IsGoal problem.now goal.now }
+    {
+        let mut tree = Tree {
+            node: Node::new(alloc),
+            plan: Vec::new(alloc),
+            splits: 0,
+        };
+        for _ in 0..MOST_NODES {
+            let board = Board::of(alloc, problem, &tree.node)?;
+            let planning = self.planned(alloc, problem, goal, &board, tree.node.len())?;
+            match tree.add(planning)? {
+                Going::On => {}
+                Going::Done => {
+                    tree.plan.reverse();
+                    return Ok(tree.plan);
+                }
+                Going::Lost => return Ok(Vec::new(alloc)),
+            }
+        }
+        Ok(Vec::new(alloc))
+    }
+}
