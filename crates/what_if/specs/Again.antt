@@ -1,5 +1,5 @@
 -- What an award once more answers.
-use Rattle.std.specs.Prelude.{◌≡◌, ℕ, ◌<◌, ◌++◌, All, List, length, map, take}
+use Rattle.std.specs.Prelude.{◌≡◌, ℕ, ◌<◌, All, List, length, map, take}
 use Rattle.roster_model.specs.declared.problem.Problem.{Problem}
 use Rattle.roster_model.specs.declared.goal.Goal.{Goal}
 use Rattle.roster_model.specs.declared.proof.Item.{Item}
