@@ -70,6 +70,10 @@ one_decision problem node d is m p once = subst (IsNode problem) (sym is) (recor
   once = once;
 })
 
+-- the bids of one member
+pub bids_of_one : (h : Horizon) (count : ℕ) (list : List Bid) (bids : List (List Bid)) → bids ≡ list ∷ [] → All (IsBid h count) list → All (All (IsBid h count)) bids
+bids_of_one h count list bids is each = subst (All (All (IsBid h count))) (sym is) (All-from_recursion (All (IsBid h count)) (list ∷ []) (each, tt))
+
 -- the bids of two members, where there are four pairings
 pub bids_of_two : (h : Horizon) (count : ℕ) (senior junior : List Bid) (bids : List (List Bid)) → bids ≡ senior ∷ junior ∷ [] → count ≡ 4 → All (IsBid h 4) senior → All (IsBid h 4) junior
     → All (All (IsBid h count)) bids

@@ -145,6 +145,20 @@ pub(crate) fn pairings(alloc: Global, count: u32, need: u32) -> Result<List<Pair
     Ok(list)
 }
 
+/// Pairings of these credits, at most 200 hours, one day after the other.
+pub(crate) fn pairings_of(alloc: Global, credits: &[u32]) -> Result<List<Pairing>, Memory>
+    requires few { length credits.now ≤ 30 }
+    ensures count { IfOk result (λ list. length list ≡ length credits.now) }
+    ensures form { IfOk result (λ list. (h : Month) → 30 ≤ month_days h → ArePairings h list) }
+{
+    let mut list = List::new(alloc);
+    for number in 0..credits.len() as u32 {
+        let credit = credits[number as usize].min(12_000);
+        list = with_pairing(list, pairing(alloc, number, 1 + number, 1, credit)?)?;
+    }
+    Ok(list)
+}
+
 /// One pairing of the tenth day.
 pub(crate) fn tenth(alloc: Global, credit: u32) -> Result<List<Pairing>, Memory>
     requires few_credit { credit ≤ 12000 }

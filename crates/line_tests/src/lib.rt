@@ -11,3 +11,5 @@ mod june;
 mod lines;
 #[cfg(test)]
 mod pools;
+#[cfg(test)]
+mod whole_lines;

@@ -1,5 +1,5 @@
 //! What weighs most, and why nothing does.
-ghost use Rattle.std.specs.Prelude.{◌≡◌, ◌<◌, ◌≤◌, ◌^◌, [], IfOk, length};
+ghost use Rattle.std.specs.Prelude.{◌≡◌, ◌<◌, ◌≤◌, ◌^◌, [], IfOk, false, length};
 ghost use Rattle.duty_calendar.specs.Calendar.{month_days};
 ghost use Rattle.duty_calendar.specs.declared.horizon.Horizon.{Horizon as Month};
 ghost use Rattle.duty_calendar.specs.Checks.{ArePairings};
@@ -10,6 +10,7 @@ ghost use Rattle.roster_model.specs.Weights.{AreSmallWeights};
 use crate::june::{contest, first_line, month, one, pairings, single, tenth, two_floors, with};
 use duty_calendar::{List, Memory, Pairing};
 use label_lattice::Steps;
+use lens_classes::{Terms, plain_terms};
 use line_generator::{
     BestFault, BestInFault, Generator, Over, PricedLine, are_small, best, best_over, heaviest,
     heaviest_over,
@@ -209,6 +210,7 @@ fn asked_of_first(alloc: Global, problem: &Problem) -> Asked
     ensures goal { IsGoal problem.now result.goal }
     ensures node { IsNode problem.now result.node }
     ensures lens { IsLens problem.now 0 result.lens }
+    ensures plain { result.lens.whole ≡ false }
     ensures windows { result.lens.windows ≡ [] }
 {
     Asked {
@@ -350,7 +352,8 @@ fn arcs_of_first(alloc: Global, problem: &Problem) -> Result<List<u32>, Memory>
     requires one { length problem.now.base.pairings ≡ 1 }
 {
     let Asked { goal, node, lens } = &asked_of_first(alloc, problem);
-    let graph = take_graph::<1>(alloc, problem, 0, goal, node, lens, &[1])?;
+    let terms = plain_terms(problem, 0, goal, lens);
+    let graph = take_graph::<1>(alloc, problem, 0, &terms, node, lens, &[1])?;
     Ok(graph.adds)
 }
 
@@ -363,18 +366,17 @@ fn one_arc_takes_the_pairing(rt: HostRuntime) -> Result<(), BestFault> {
     Ok(())
 }
 
-/// What the lens tracks once it is narrowed for the goal.
+/// What the lens tracks once it is narrowed for the terms.
 fn narrowed(
     alloc: Global,
     problem: &Problem,
     member: u32,
-    goal: &Goal,
+    terms: &Terms,
     lens: &Lens,
 ) -> Result<u64, Memory>
     requires member { member < length problem.now.base.members }
-    requires goal { IsGoal problem.now goal.now }
 {
-    let narrow = narrow_lens(alloc, problem, member, goal, lens)?;
+    let narrow = narrow_lens(alloc, problem, member, terms, lens)?;
     Ok(narrow.tracked)
 }
 
@@ -390,8 +392,9 @@ fn narrowed_for(alloc: Global, problem: &Problem, floors: List<u32>) -> Result<(
         grant: None,
     };
     let lens = standard_lens(alloc, problem, member);
-    let nothing = asks_nothing(problem, member, &goal, &lens);
-    Ok((narrowed(alloc, problem, member, &goal, &lens)?, nothing))
+    let terms = plain_terms(problem, member, &goal, &lens);
+    let nothing = asks_nothing(problem, member, &terms, &lens);
+    Ok((narrowed(alloc, problem, member, &terms, &lens)?, nothing))
 }
 
 #[test]
@@ -435,6 +438,7 @@ fn told_from<L: Ledger>(
     requires one { length problem.now.base.pairings ≡ 1 }
     requires goal { IsGoal problem.now asked.now.goal }
     requires node { IsNode problem.now asked.now.node }
+    requires plain { asked.now.lens.whole ≡ false }
     requires listed { length asked.now.lens.windows < 2 ^ 32 }
     requires name { blank.name ≡ L.name }
     requires parts { blank.parts ≡ L.parts }
@@ -458,6 +462,7 @@ fn told(alloc: Global, room: u32, grain: u32, count: u32) -> Result<Told, Memory
             tracked: 0,
             free30: false,
             days: false,
+            whole: false,
             windows: windows(alloc, count)?,
         },
     };
