@@ -3,6 +3,7 @@ import re
 
 VERSION, WORD, NUMBER, SHORT, TRAILING, LIMIT = range(1, 7)
 MOST_WEIGHT, MOST_MINUTES = 2_147_483_647, 4_294_967_295
+AS_ONE, USES_OF_AN_ITEM = 4_294_967_296, 200
 
 
 class Fault(Exception):
@@ -43,6 +44,26 @@ class Words:
         self.take("[01]")
         self.limit(self.all(self.window), 64)
 
+    def compared(self, most, form="0|[1-9][0-9]*"):
+        """A number as it is compared with others: those from 4,294,967,296 on count as one."""
+        return min(self.number(most, form), AS_ONE)
+
+    def pair(self, most, last):
+        """The place of a pair, which is behind the last one; its weight is not 0."""
+        place, weight = self.take("[1-9][0-9]*:-?[1-9][0-9]*").split(":")
+        self.limit(abs(int(weight)), MOST_WEIGHT)
+        self.must(last < min(int(place), AS_ONE) <= most)
+        return min(int(place), AS_ONE)
+
+    def sparse(self):
+        most, last = self.compared(600), 0
+        while self.words:
+            last = self.pair(most, last)
+
+    def must(self, holds):
+        if not holds:
+            raise Fault(NUMBER)
+
     def row(self):
         places = []
         self.limit(self.all(lambda: places.append(self.place())), 600)
@@ -63,9 +84,34 @@ class Words:
             raise Fault(LIMIT)
 
 
+class Lenses:
+    """The lenses of a proof of version 2: those that stand in front, and the greatest number that was named."""
+
+    def __init__(self, total):
+        self.total, self.named, self.lines = total, 0, set()
+
+    def add(self, first, words):
+        """A line, which is new. Its first word says whether the lens looks at whole lines."""
+        line = (first, *words.words)
+        words.lens()
+        words.must(line not in self.lines)
+        words.end()
+        self.lines.add(line)
+
+    def name(self, words):
+        number = int(words.take("[1-9][0-9]*"))
+        words.must(number <= self.total and number <= self.named + 1)
+        self.named = max(self.named, number)
+
+    def end(self, words, left):
+        """The end of an item's last line, behind which so many items are to come."""
+        words.must(not words.words and self.total <= self.named + USES_OF_AN_ITEM * left)
+        words.end()
+
+
 class Reader:
     def __init__(self, text):
-        self.rest, self.line = text, 0
+        self.rest, self.line, self.version = text, 0, None
 
     def next(self, *firsts):
         """The next line's first word, which is one of these, and the words behind it."""
@@ -78,10 +124,11 @@ class Reader:
             raise Fault(WORD)
         return first, Words(others)
 
-    def version(self):
+    def heading(self):
         first, words = self.next()
-        if [first, *words.words] != ["pbs-certificate", "1"]:
+        if [first, *words.words] not in (["pbs-certificate", "1"], ["pbs-certificate", "2"]):
             raise Fault(VERSION)
+        self.version = int(words.words[0])
 
     def bare(self, words):
         if words.words:
@@ -107,7 +154,33 @@ class Reader:
         words.lens()
         words.end()
 
+    def numbered_item(self, lenses, left):
+        first, words = self.next("split", "count", "fixed", "noline", "weights")
+        if first == "weights":
+            words.sparse()
+            words.end()
+            _, words = self.next("by")
+            words.limit(words.all(lambda: lenses.name(words)), 200)
+        else:
+            words.place()
+        if first == "split":
+            words.place()
+        if first == "noline":
+            lenses.name(words)
+        lenses.end(words, left)
+
+    def numbered_proof(self):
+        _, words = self.next("proof")
+        count, lenses = words.compared(40_001), Lenses(words.compared(8_000_200))
+        lenses.end(words, count)
+        for _ in range(lenses.total):
+            lenses.add(*self.next("lens", "whole"))
+        for number in range(count):
+            self.numbered_item(lenses, count - 1 - number)
+
     def proof(self):
+        if self.version == 2:
+            return self.numbered_proof()
         _, words = self.next("proof")
         count = words.number(40_001)
         words.end()
@@ -134,7 +207,7 @@ class Reader:
             self.shown()
 
     def whole(self):
-        self.version()
+        self.heading()
         first, words = self.next("award", "none")
         if first == "award":
             self.award(words)

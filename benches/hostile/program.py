@@ -23,12 +23,13 @@ MOST_MEMORY = 6 * 2**20
 
 class Run:
     """The exit code of a run (None where it was stopped), what it printed, its seconds of the processor, and its MiB
-    (not less than those of this script). It is stopped after so many seconds of the processor, and has 6 GiB of memory.
+    (not less than those of this script). It is stopped after so many seconds of the processor, and has 6 GiB of memory,
+    where no other number of KiB is said.
     """
 
-    def __init__(self, folder, *words, limit=60, stdout=subprocess.PIPE):
-        command = ["sh", "-c", LIMITS, "sh", str(limit), str(MOST_MEMORY), PROGRAM, str(folder), *words]
-        run = subprocess.Popen(command, stdout=stdout)
+    def __init__(self, folder, *words, limit=60, stdout=subprocess.PIPE, stderr=None, memory=MOST_MEMORY):
+        command = ["sh", "-c", LIMITS, "sh", str(limit), str(memory), PROGRAM, str(folder), *words]
+        run = subprocess.Popen(command, stdout=stdout, stderr=stderr)
         printed = run.stdout.read() if run.stdout else b""
         status, usage = os.wait4(run.pid, 0)[1:]
         run.returncode = os.waitstatus_to_exitcode(status)
