@@ -22,11 +22,11 @@ use Rattle.roster_model.specs.Scores.{bids_of, days_off, is_granted, is_granting
 use Rattle.roster_model.specs.Lenses.{IsLens, IsLensLine, KeepsWindow, ceil_to, floor_to, has_trackable, has_whole, is_grain, is_granted_at, is_granting_at, is_trackable, is_tracked, is_whole, is_whole_tracked, lens_score, rounded_credit}
 use Rattle.lens_classes.specs.declared.terms.Terms.{Terms}
 use Rattle.lens_classes.specs.TermLines.{IsTermLine, term_score}
-use Rattle.lens_classes.specs.Classes.{IsClass, IsClassLens, IsTerms, asks, beyond_for, class_beyond, class_days, class_lost, class_low, days_for, is_in, least_for, own_bid}
+use Rattle.lens_classes.specs.Classes.{IsClass, IsClassLens, IsImplied, IsTerms, asks, beyond_for, class_beyond, class_days, class_lost, class_low, days_for, has_counting, is_counting, is_in, least_for, own_bid}
 use Rattle.lens_classes.specs.Laws.{IsInClass, KeepsClass, PassesByClasses}
 use Rattle.lens_classes.proofs.Among.{least_above, least_has, most_has, most_keeps, most_within}
 use Rattle.lens_classes.proofs.Bits.{beyond_within}
-use Rattle.lens_classes.proofs.Grants.{granting_trackable, is_beyond, is_days, is_granted_by, is_least, kind_of, kinds_apart}
+use Rattle.lens_classes.proofs.Grants.{granting_counting, granting_trackable, is_beyond, is_days, is_granted_by, is_least, kind_of, kinds_apart}
 use Rattle.lens_classes.proofs.Packs.{pack, pack_is, pack_small}
 use Rattle.lens_classes.proofs.Scores.{IsKept, IsNarrow, IsTrue, each_of, kept_counts, true_counts}
 
@@ -121,6 +121,12 @@ module _ (problem : Problem) (member : ℕ) (goal : Goal) (node : List Decision)
       ≡ option_map_or (λ (b : Bid). is_granting problem member line b.wish) o false
   own_at x line None h = cc
   own_at x line (Some b) h = granting_trackable problem member x line b.wish h
+
+  own_counting : (x : ℕ) (line : List ℕ) (o : Option Bid) → option_map_or (λ (b : Bid). is_counting b.wish) o false ≡ true
+      → option_map_or (λ (b : Bid). is_granting_at problem member x line b.wish) o false
+      ≡ option_map_or (λ (b : Bid). is_granting problem member line b.wish) o false
+  own_counting x line None h = cc
+  own_counting x line (Some b) h = granting_counting problem member x line b.wish h
 
   kind_there : (o : Option Bid) (b : Bid) (w z : Bool) → o ≡ Some b
       → (option_map_or (λ (x : Bid). is_trackable x.wish) o false || (w && (option_map_or (λ (x : Bid). is_whole x.wish) o false && z))) ≡ true
@@ -220,6 +226,10 @@ module _ (problem : Problem) (member : ℕ) (goal : Goal) (node : List Decision)
           let at = is.grant asked.ref asked.there asked.mine asked.tracked in
           let own = sym (own_at is.credit line (slice_get (bids_of problem member) asked.ref.bid) asked.trackable) ∙ at in
           subst (λ (n : ℕ). is_granted problem member n line ≡ true) asked.same own;
+      counts = λ bid h.
+          let both = and_parts (asks lens true_class bid) (has_counting problem member bid) (sym (ts.counted bid) ∙ h) in
+          let at = and_parts (is_tracked lens bid) (true_class bid) both.0 in
+          sym (own_counting is.credit line (slice_get (bids_of problem member) bid) both.1) ∙ true_grants bid at.1;
       free = λ on. is.free (sym nl.free30 ∙ on);
       nights = λ on. is.nights (sym nl.free30 ∙ on);
       enough_days_off = λ on. let days = days_within in let e = ts.days_off in omega (arith, days, e);
@@ -234,6 +244,22 @@ module _ (problem : Problem) (member : ℕ) (goal : Goal) (node : List Decision)
           (is.grant b e mine (and_parts (is_tracked lens b.bid) (has_whole problem member b.bid) whole).0);
     }
 
+    -- what the terms of the class imply the line grants
+    true_closed : (bid : ℕ) (b : Bid) → slice_get (bids_of problem member) bid ≡ Some b → is_tracked lens bid ≡ true
+        → IsImplied problem member lens true_class b.wish → true_class bid ≡ true
+    true_closed bid b e t implied =
+        let has = test_of (λ (b : Bid). is_whole b.wish) (slice_get (bids_of problem member) bid) b e ∙ implied.whole in
+        let at = test_of (λ (b : Bid). is_granting_at problem member is.credit line b.wish) (slice_get (bids_of problem member) bid) b e in
+        let low = low_within in
+        let least = implied.low in
+        let less = beyond_above in
+        let beyond = implied.beyond in
+        let all = days_within in
+        let days = implied.days in
+        and_from (is_whole_tracked problem member lens bid) (is_granted_at problem member is.credit bid line)
+        (and_from (is_tracked lens bid) (has_whole problem member bid) t has)
+        (at ∙ is_granted_by problem member is.credit line (high_of problem member + 1) b.wish implied.whole (omega (arith, low, least)) (omega (arith, less, beyond)) (omega (arith, all, days)) (λ counting. absurd (cc (sym implied.single ∙ counting))))
+
     pub in_class : IsInClass problem member goal node lens line
     in_class =
         let bit = pack_is true_class 64 true_below in
@@ -242,6 +268,8 @@ module _ (problem : Problem) (member : ℕ) (goal : Goal) (node : List Decision)
           granted = pack true_class 64;
           within = pack_small true_class 64;
           only = λ bid h. true_tracks bid (sym (bit bid) ∙ h);
+          closed = subst (λ (granted : ℕ → Bool). (bid : ℕ) (b : Bid) → slice_get (bids_of problem member) bid ≡ Some b → is_tracked lens bid ≡ true
+              → IsImplied problem member lens granted b.wish → granted bid ≡ true) same true_closed;
           class = subst (λ (granted : ℕ → Bool). IsClass problem member goal lens granted) same true_is;
           keeps = subst (λ (granted : ℕ → Bool). KeepsClass problem member goal node lens granted line) same true_keeps;
         }
@@ -317,6 +345,10 @@ module _ (problem : Problem) (member : ℕ) (goal : Goal) (node : List Decision)
         let days = days_has k b e asked in
         let all = days_kept in
         is_granted_by problem member taken line (high_of problem member + 1) b.wish w (omega (arith, low)) (omega (arith, beyond, less)) (omega (arith, days, all))
+        (λ c.
+        let counting = test_of (λ (b : Bid). is_counting b.wish) (slice_get (bids_of problem member) k) b e ∙ c in
+        let counted = is.counts k (ts.counted k ∙ and_from (asks lens granted k) (has_counting problem member k) here counting) in
+        sym (test_of (λ (b : Bid). is_granting problem member line b.wish) (slice_get (bids_of problem member) k) b e) ∙ counted)
 
     score_kept : term_score problem member narrow line ≤ lens_score problem member lens taken line + class_lost problem member lens granted
     unfolding lens_score class_lost term_score

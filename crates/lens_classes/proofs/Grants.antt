@@ -7,7 +7,7 @@ use Rattle.roster_model.specs.declared.bid.Wish.{Wish}
 use Rattle.roster_model.specs.declared.bid.Wish.TheVariants.{Fly, Avoid, Prefer, Off, CreditBelow, CreditAbove, DaysOff}
 use Rattle.roster_model.specs.Lenses.{is_granting_at, is_trackable, is_whole}
 use Rattle.roster_model.specs.Scores.{is_granting, days_off}
-use Rattle.lens_classes.specs.Classes.{least_for, beyond_for, days_for}
+use Rattle.lens_classes.specs.Classes.{least_for, beyond_for, days_for, is_counting}
 
 module _ (problem : Problem) (member x : ℕ) (line : List ℕ) where
   -- where a pairing can decide the wish, credit does not matter
@@ -20,6 +20,16 @@ module _ (problem : Problem) (member x : ℕ) (line : List ℕ) where
   granting_trackable (CreditBelow m) t = cc
   granting_trackable (CreditAbove m) t = cc
   granting_trackable (DaysOff n) t = refl
+
+  pub granting_counting : (wish : Wish) → is_counting wish ≡ true
+      → is_granting_at problem member x line wish ≡ is_granting problem member line wish
+  granting_counting (Fly p) t = refl
+  granting_counting (Avoid f) t = refl
+  granting_counting (Prefer n f) t = refl
+  granting_counting (Off first last) t = refl
+  granting_counting (CreditBelow m) t = cc
+  granting_counting (CreditAbove m) t = cc
+  granting_counting (DaysOff n) t = refl
 
   pub is_least : (wish : Wish) → is_granting_at problem member x line wish ≡ true → least_for wish ≤ x
   is_least (Fly p) h = omega arith
@@ -58,36 +68,25 @@ module _ (problem : Problem) (member x : ℕ) (line : List ℕ) where
 
   -- a wish that only a whole line decides is granted where the line keeps what it gives
   pub is_granted_by : (beyond : ℕ) (wish : Wish) → is_whole wish ≡ true → least_for wish ≤ x → x < beyond_for beyond wish
-      → days_for wish ≤ days_off problem member line → is_granting_at problem member x line wish ≡ true
-  is_granted_by beyond (Fly p) w l b d = cc
-  is_granted_by beyond (Avoid f) w l b d = cc
-  is_granted_by beyond (Prefer n f) w l b d = cc
-  is_granted_by beyond (Off first last) w l b d = cc
-  is_granted_by beyond (CreditBelow m) w l b d = grind (arith, nat_tests)
-  is_granted_by beyond (CreditAbove m) w l b d = grind (arith, nat_tests)
-  is_granted_by beyond (DaysOff n) w l b d = so_many n (days_off problem member line) d
-
-either : (t w z : Bool) → (t || (w && (false && z))) ≡ true → false ≡ not t
-either true w z h = refl
-either false true z h = cc
-either false false z h = cc
+      → days_for wish ≤ days_off problem member line
+      → (is_counting wish ≡ true → is_granting problem member line wish ≡ true)
+      → is_granting_at problem member x line wish ≡ true
+  is_granted_by beyond (Fly p) w l b d c = cc
+  is_granted_by beyond (Avoid f) w l b d c = cc
+  is_granted_by beyond (Prefer n f) w l b d c = c w
+  is_granted_by beyond (Off first last) w l b d c = cc
+  is_granted_by beyond (CreditBelow m) w l b d c = grind (arith, nat_tests)
+  is_granted_by beyond (CreditAbove m) w l b d c = grind (arith, nat_tests)
+  is_granted_by beyond (DaysOff n) w l b d c = so_many n (days_off problem member line) d
 
 -- a wish that can be tracked is of one of the two kinds
 pub kind_of : (wish : Wish) (w z : Bool) → (is_trackable wish || (w && (is_whole wish && z))) ≡ true → is_whole wish ≡ not (is_trackable wish)
-kind_of (Fly p) w z h = refl
-kind_of (Avoid f) w z h = refl
-kind_of (Prefer n f) w z h = either (n == 1) w z h
-kind_of (Off first last) w z h = refl
-kind_of (CreditBelow m) w z h = refl
-kind_of (CreditAbove m) w z h = refl
-kind_of (DaysOff n) w z h = refl
+kind_of wish w z h = refl
+
+no_more : (b : Bool) → not b ≡ true → b ≡ false
+no_more true h = cc
+no_more false h = refl
 
 -- and no wish is of both
 pub kinds_apart : (wish : Wish) → is_whole wish ≡ true → is_trackable wish ≡ false
-kinds_apart (Fly p) w = cc
-kinds_apart (Avoid f) w = cc
-kinds_apart (Prefer n f) w = cc
-kinds_apart (Off first last) w = cc
-kinds_apart (CreditBelow m) w = refl
-kinds_apart (CreditAbove m) w = refl
-kinds_apart (DaysOff n) w = refl
+kinds_apart wish w = no_more (is_trackable wish) w

@@ -1,5 +1,8 @@
 -- The terms of a lens that looks at pairings one by one.
-use Rattle.std.proofs.Common.{◌≡◌, ℕ, zero, suc, ◌<◌, true, false, List, [], ◌∷◌, length, Option, refl, sym, subst, ◌∙◌, arith}
+use Rattle.std.proofs.Common.{◌≡◌, ℕ, zero, suc, ◌<◌, ◌==◌, true, false, List, [], ◌∷◌, length, Option, refl, ap, sym, subst, ◌∙◌, arith}
+use Rattle.std.specs.Int.{bit_at}
+use Rattle.std.proofs.lemmas.Bool.{false≢true}
+use Rattle.std.proofs.lemmas.Nat.Bits.{bit_at-zero}
 use Rattle.std.specs.Prelude.{◌↔◌, slice_get, if◌then◌else◌}
 use Rattle.std.specs.Option.{ForSome, option_map_or}
 use Rattle.roster_model.specs.declared.problem.Problem.{Problem}
@@ -11,7 +14,7 @@ use Rattle.roster_model.specs.Legality.{low_of, high_of}
 use Rattle.roster_model.specs.Scores.{bids_of, is_granted}
 use Rattle.roster_model.specs.Lenses.{IsLens, IsLensLine, is_trackable}
 use Rattle.lens_classes.specs.declared.terms.Terms.{Terms}
-use Rattle.lens_classes.specs.TermLines.{IsTermLine, term_score}
+use Rattle.lens_classes.specs.TermLines.{IsTermLine, is_counted, term_score}
 use Rattle.lens_classes.specs.Classes.{asked_bid, floor_of}
 use Rattle.lens_classes.specs.Today.{IsLensLineBefore, score_before}
 use Rattle.lens_classes.proofs.Before.{passes_as_before, trackable}
@@ -36,6 +39,11 @@ pub record ArePlain (problem : Problem) (member : ℕ) (goal : Goal) (lens : Len
   pub days_off : terms.days_off ≡ (if lens.days then problem.base.rules.days_off else 0)
   pub floor : terms.floor ≡ floor_of goal member
   pub asked : terms.asked ≡ asked_bid problem member goal lens
+  pub counted : terms.counted ≡ 0
+
+-- where nothing is counted, no bid is
+pub none_counted : (terms : Terms) → terms.counted ≡ 0 → (bid : ℕ) → is_counted terms bid ≡ false
+none_counted terms none bid = ap (λ (n : ℕ). n == 1) (ap (λ (m : ℕ). bit_at m bid) none ∙ bit_at-zero bid)
 
 module _ (problem : Problem) (member : ℕ) (goal : Goal) (node : List Decision) (lens : Lens) (shape : IsLens problem member lens) (plain : lens.whole ≡ false) (terms : Terms) (are : ArePlain problem member goal lens terms) (line : List ℕ) where
   same_counted : term_score problem member lens line ≡ score_before problem member lens line
@@ -59,6 +67,7 @@ module _ (problem : Problem) (member : ℕ) (goal : Goal) (node : List Decision)
     grant = λ bid e t.
         let asked = asked_is problem member lens goal.grant bid (sym are.asked ∙ e) in
         subst (λ (n : ℕ). is_granted problem member n line ≡ true) asked.same (is.grant asked.ref asked.there asked.mine asked.tracked);
+    counts = λ bid h. absurd (false≢true (sym (none_counted terms are.counted bid) ∙ h));
     free = is.free;
     nights = is.nights;
     enough_days_off = λ on.

@@ -58,6 +58,7 @@ module _ (problem : Problem) (member : ℕ) (node : List Decision) (lens first s
         most_credit = subst (λ (g : ℕ). rounded_credit (floor_to g) problem member line ≤ wide.high) grain (let high = wider.high in let down = is.most_credit in omega (arith, high, down));
         floor = let f = wider.floor in let g = is.floor in let same = same_score in let loose = loose_below in omega (arith, f, g, same, loose);
         grant = λ bid e t. is.grant bid (sym wider.asked ∙ e) (b.tracked bid ∙ sym (a.tracked bid) ∙ t);
+        counts = λ bid h. is.counts bid (wider.counted bid h);
         free = λ on. is.free (b.free30 ∙ sym a.free30 ∙ on);
         nights = λ on. is.nights (b.free30 ∙ sym a.free30 ∙ on);
         enough_days_off = λ on. enough;

@@ -1,7 +1,7 @@
 -- Classes of lens lines: which of the tracked bids that only a whole line decides they grant, and the terms of that.
 use Rattle.std.specs.Int.{bit_at}
 use Rattle.std.specs.Option.{ForSome, option_and_then, option_map_or}
-use Rattle.std.specs.Prelude.{◌≡◌, ℕ, ◌+◌, ◌<◌, min, max, Bool, true, false, not, ◌&&◌, ◌==◌, nat_lt, List, [], ◌∷◌, Option, Some, None, slice_get, if◌then◌else◌}
+use Rattle.std.specs.Prelude.{◌≡◌, ℕ, ◌+◌, ◌<◌, ◌≤◌, min, max, Bool, true, false, not, ◌&&◌, ◌==◌, nat_lt, List, [], ◌∷◌, Option, Some, None, slice_get, if◌then◌else◌}
 use Rattle.roster_model.specs.declared.problem.Problem.{Problem}
 use Rattle.roster_model.specs.declared.bid.Bid.{Bid}
 use Rattle.roster_model.specs.declared.bid.Wish.{Wish}
@@ -12,6 +12,7 @@ use Rattle.roster_model.specs.declared.proof.Lens.{Lens}
 use Rattle.roster_model.specs.Legality.{low_of, high_of}
 use Rattle.roster_model.specs.Lenses.{has_trackable, is_tracked, is_whole, is_whole_tracked}
 use Rattle.roster_model.specs.Scores.{bids_of}
+use Rattle.lens_classes.specs.TermLines.{is_counted}
 use Rattle.lens_classes.specs.declared.terms.Terms.{Terms}
 
 -- the least credit with which the wish is granted, and the credit from which on it is not: the given one, where credit
@@ -43,6 +44,20 @@ days_for (Off first last) = 0
 days_for (CreditBelow m) = 0
 days_for (CreditAbove m) = 0
 days_for (DaysOff n) = n
+
+-- whether it wants several pairings of a kind
+abbrev pub is_counting : Wish → Bool
+is_counting (Fly p) = false
+is_counting (Avoid f) = false
+is_counting (Prefer n f) = not (n == 1)
+is_counting (Off first last) = false
+is_counting (CreditBelow m) = false
+is_counting (CreditAbove m) = false
+is_counting (DaysOff n) = false
+
+abbrev pub has_counting : Problem → ℕ → ℕ → Bool
+has_counting problem member bid =
+    option_map_or (λ b. is_counting b.wish) (slice_get (bids_of problem member) bid) false
 
 -- the greatest and the least of a number and of what the wishes give that are asked for, counted from a number on
 abbrev pub most_among : (Wish → ℕ) → (ℕ → Bool) → ℕ → List Bid → ℕ → ℕ
@@ -99,6 +114,14 @@ asked_bid problem member goal lens = option_and_then (own_bid problem member len
 abbrev pub floor_of : Goal → ℕ → ℕ
 floor_of goal member = option_map_or (λ f. f) (slice_get goal.floors member) 0
 
+-- a wish on credit or days off that all lines of the class grant by these
+pub record IsImplied (problem : Problem) (member : ℕ) (lens : Lens) (granted : ℕ → Bool) (wish : Wish) : Type 0 where
+  pub whole : is_whole wish ≡ true
+  pub single : is_counting wish ≡ false
+  pub low : least_for wish ≤ class_low problem member lens granted
+  pub beyond : class_beyond problem member lens granted ≤ beyond_for (high_of problem member + 1) wish
+  pub days : days_for wish ≤ class_days problem member lens granted
+
 -- a choice of bids to grant that credit allows, with the goal's bid where that is the member's, tracked, and one that
 -- only a whole line decides
 pub record IsClass (problem : Problem) (member : ℕ) (goal : Goal) (lens : Lens) (granted : ℕ → Bool) : Type 0 where
@@ -114,6 +137,7 @@ pub record IsTerms (problem : Problem) (member : ℕ) (goal : Goal) (lens : Lens
   pub days_off : terms.days_off ≡ class_days problem member lens granted
   pub floor : terms.floor ≡ floor_of goal member + class_lost problem member lens granted
   pub asked : terms.asked ≡ asked_bid problem member goal lens
+  pub counted : (bid : ℕ) → is_counted terms bid ≡ (asks lens granted bid && has_counting problem member bid)
 
 -- the lens of a class: what one pairing can decide is tracked, and days are looked at where some are to be off
 pub record IsClassLens (problem : Problem) (member : ℕ) (lens : Lens) (days_off : ℕ) (narrow : Lens) : Type 0 where

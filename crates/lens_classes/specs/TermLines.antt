@@ -1,6 +1,7 @@
 -- Lines of a lens that looks at pairings one by one, where terms stand in place of the member's window of credit, the
 -- rules' days off, and the goal.
-use Rattle.std.specs.Prelude.{◌≡◌, ℕ, ◌<◌, ◌≤◌, true, not, ◌||◌, ℤ, ◌≤ℤ◌, List, All, length, sum_by, if◌then◌else◌}
+use Rattle.std.specs.Prelude.{◌≡◌, ℕ, ◌<◌, ◌≤◌, Bool, true, not, ◌||◌, ◌==◌, ℤ, ◌≤ℤ◌, List, All, length, sum_by, if◌then◌else◌}
+use Rattle.std.specs.Int.{bit_at}
 use Rattle.std.specs.List.{enumerate_from}
 use Rattle.std.specs.Option.{ForSome}
 use Rattle.duty_calendar.specs.Limits.{AreDisjoint, AtReports, IsRested, HadDaysFree}
@@ -34,6 +35,10 @@ unfoldable pub loose_weight : Problem → ℕ → Lens → ℕ
 loose_weight problem member lens =
     sum_by (λ nb. if is_tracked lens nb.0 then 0 else nb.1.weight) (enumerate_from 0 (bids_of problem member))
 
+-- whether the terms count the pairings that the bid of this number is about
+abbrev pub is_counted : Terms → ℕ → Bool
+is_counted terms bid = bit_at terms.counted bid == 1
+
 -- a line that passes all that the lens looks at, and keeps the terms
 pub record IsTermLine (problem : Problem) (member : ℕ) (node : List Decision) (lens : Lens) (terms : Terms) (line : List ℕ) : Type 0 where
   pub ascending : is_ascending line ≡ true
@@ -46,6 +51,7 @@ pub record IsTermLine (problem : Problem) (member : ℕ) (node : List Decision) 
   pub floor : terms.floor ≤ term_score problem member lens line
   pub grant :
       ForSome terms.asked (λ bid. is_tracked lens bid ≡ true → is_granted problem member bid line ≡ true)
+  pub counts : (bid : ℕ) → is_counted terms bid ≡ true → is_granted problem member bid line ≡ true
   pub free :
       lens.free30 ≡ true
       → AtReports (HadDaysFree (events_of problem member line)) (coming_events problem member line)

@@ -9,5 +9,8 @@ mod sums;
 mod terms;
 
 pub use classes::{class_terms, plain_terms};
-pub use laws::{plain_lenses_pass_as_before, whole_lenses_pass_by_classes, wider_terms_pass_more};
+pub use laws::{
+    legal_lines_pass, plain_lenses_pass_as_before, whole_lenses_pass_by_classes,
+    wider_terms_pass_more,
+};
 pub use terms::Terms;

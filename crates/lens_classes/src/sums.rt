@@ -59,10 +59,7 @@ pub(crate) fn is_trackable(wish: &Wish) -> bool
 pub(crate) fn is_whole(wish: &Wish) -> bool
     ensures whole { result ≡ is_whole wish.now }
 {
-    match wish {
-        Wish::Fly(_) | Wish::Avoid(_) | Wish::Prefer(_, _) | Wish::Off(_, _) => false,
-        Wish::CreditBelow(_) | Wish::CreditAbove(_) | Wish::DaysOff(_) => true,
-    }
+    !is_trackable(wish)
 }
 
 /// The least credit with which the wish is granted.
