@@ -3,7 +3,7 @@ use Rattle.std.proofs.Common.{◌≡◌, ℕ, ℤ, ◌+◌, ◌^◌, ◌<◌, �
 use Rattle.std.specs.Prelude.{All, Err, IfNone, IfOk, Ok, Result, IfSome, int_lt, if◌then◌else◌}
 use Rattle.std.specs.Int.Signed.{◌<ℤ◌}
 use Rattle.std.proofs.Math.Path.{fun_ext}
-use Rattle.std.proofs.lemmas.Bool.{and_parts, cases_lt}
+use Rattle.std.proofs.lemmas.Bool.{and_parts, cases_lt, false≢true}
 use Rattle.std.proofs.lemmas.Int.{ints}
 use Rattle.duty_calendar.specs.Minutes.{count_between}
 use Rattle.roster_model.specs.declared.problem.Problem.{Problem}
@@ -11,15 +11,18 @@ use Rattle.roster_model.specs.declared.goal.Goal.{Goal}
 use Rattle.roster_model.specs.declared.node.Decision.{Decision}
 use Rattle.roster_model.specs.declared.proof.Lens.{Lens}
 use Rattle.roster_model.specs.declared.proof.Window.{Window}
+use Rattle.roster_model.specs.Legality.{high_of}
 use Rattle.roster_model.specs.Lenses.{HasNoLine, IsLens, IsLensLine, IsMostWeight, IsWindow, has_trackable, is_grain, is_tracked, is_whole_tracked, may_track}
 use Rattle.roster_model.specs.Weights.{weight_of}
-use Rattle.lens_classes.specs.Classes.{IsClassLens, is_in}
-use Rattle.lens_classes.specs.TermLines.{HasNoTermLine, IsMostTermWeight, IsTermLine}
+use Rattle.lens_classes.specs.Classes.{IsClassLens, IsTerms, is_in}
+use Rattle.lens_classes.specs.TermLines.{AreTermsOf, HasNoTermLine, IsMostTermWeight, IsTermLine}
+use Rattle.lens_classes.specs.declared.terms.Terms.{Terms}
 use Rattle.lens_classes.specs.Laws.{IsInClass}
 use Rattle.lens_classes.proofs.ClassLines.{passes_by_classes}
+use Rattle.count_graphs.proofs.FewCounted.{class_counts}
 use Rattle.line_generator.specs.declared.classes.Class.{Class}
 use Rattle.line_generator.specs.declared.price.PricedLine.{PricedLine}
-use Rattle.line_generator.specs.ClassLines.{AllBelow, AllOfClass, AtMost, IsClassLine, IsClassOf, heavier, spread}
+use Rattle.line_generator.specs.ClassLines.{AllBelow, AllOfClass, AtMost, IsClassLine, IsClassOf, LosesImplied, heavier, spread}
 use Rattle.line_generator.specs.Questions.{IsQuestion, IsTermQuestion}
 use Rattle.line_generator.proofs.BidSets.{not_in, number_of, number_small, set_met}
 
@@ -55,6 +58,7 @@ module _ (problem : Problem) (member : ℕ) (goal : Goal) (node : List Decision)
   term_question granted class asked of = record {
     in_range = asked.in_range;
     fits = of.fits;
+    counted = class_counts problem member goal lens granted class.terms (passes_by_classes problem member goal node lens asked.shape).few of.are_terms;
     decisions = asked.decisions;
     shape = of.shape asked.shape;
     plain = of.is_lens.whole;
@@ -69,6 +73,26 @@ module _ (problem : Problem) (member : ℕ) (goal : Goal) (node : List Decision)
       → AllOfClass problem member goal node lens weights granted (AtMost answer)
   most_of_class granted class None of most none = λ line is. none line (class_keeps granted class line of is)
   most_of_class granted class (Some b) of most none = λ line is. most line (class_keeps granted class line of is)
+
+  -- a set that leaves out what its terms imply is no class's
+  pub loses_none : (granted : ℕ → Bool) (terms : Terms) → IsTerms problem member goal lens granted terms → AreTermsOf problem member terms
+      → LosesImplied problem member lens granted terms → (line : List ℕ) → IsClassLine problem member goal node lens granted line → ⊥
+  loses_none granted terms ts fits loses line is =
+      let low = loses.implied.low in
+      let low_is = ts.low in
+      let high = fits.high in
+      let beyond = loses.implied.beyond (high_of problem member + 1) (omega (arith, high)) in
+      let beyond_is = ts.high in
+      let days = loses.implied.days in
+      let days_is = ts.days_off in
+      let yes : granted loses.bid ≡ true = is.closed loses.bid loses.lost loses.there loses.tracked (record {
+        whole = loses.implied.whole;
+        single = loses.implied.single;
+        low = omega (arith, low, low_is);
+        beyond = omega (arith, beyond, beyond_is);
+        days = omega (arith, days, days_is);
+      }) in
+      false≢true (sym loses.left ∙ yes)
 
   -- few bids tell classes apart
   pub few_whole : (bids : ℕ) → IsLens problem member lens → ((bid : ℕ) → is_in bids bid ≡ is_whole_tracked problem member lens bid) → count_between (is_in bids) 0 64 ≤ 8
@@ -103,7 +127,7 @@ module _ (problem : Problem) (member : ℕ) (goal : Goal) (node : List Decision)
         let less = number_small (is_in bids) (is_in here.granted) 64 in
         let same : is_in here.granted ≡ spread (is_in bids) number = set_met (is_in bids) (is_in here.granted) 64 (λ bid t. within bid t) (λ bid t. are bid ∙ here.only bid t) in
         below number (omega (arith, less, all)) line
-        (subst (λ (test : ℕ → Bool). IsClassLine problem member goal node lens test line) same (record { is = here.class; keeps = here.keeps }))
+        (subst (λ (test : ℕ → Bool). IsClassLine problem member goal node lens test line) same (record { is = here.class; closed = here.closed; keeps = here.keeps }))
       where
         within : (bid : ℕ) → is_in bids bid ≡ true → bid < 64
         within bid t = elim (cases_lt bid 64) [

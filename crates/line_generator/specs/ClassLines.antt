@@ -1,21 +1,45 @@
 -- The lines of the classes of a lens, set by set of the bids that a class grants.
-use Rattle.std.specs.Prelude.{ℕ, ℤ, ◌<◌, ◌≤ℤ◌, ◌&&◌, Bool, List, Option, Some, None, int_lt, if◌then◌else◌}
+use Rattle.std.specs.Prelude.{◌≡◌, ℕ, ℤ, ◌<◌, ◌≤◌, ◌≤ℤ◌, ◌&&◌, Bool, true, false, List, Option, Some, None, int_lt, slice_get, if◌then◌else◌}
 use Rattle.duty_calendar.specs.Minutes.{count_between}
+use Rattle.roster_model.specs.declared.bid.Bid.{Bid}
+use Rattle.roster_model.specs.declared.bid.Wish.{Wish}
 use Rattle.roster_model.specs.declared.goal.Goal.{Goal}
 use Rattle.roster_model.specs.declared.node.Decision.{Decision}
 use Rattle.roster_model.specs.declared.problem.Problem.{Problem}
 use Rattle.roster_model.specs.declared.proof.Lens.{Lens}
-use Rattle.roster_model.specs.Lenses.{IsLens}
+use Rattle.roster_model.specs.Lenses.{IsLens, is_tracked, is_whole}
+use Rattle.roster_model.specs.Scores.{bids_of}
 use Rattle.roster_model.specs.Weights.{weight_of}
-use Rattle.lens_classes.specs.Classes.{IsClass, IsClassLens, IsTerms, is_in}
+use Rattle.lens_classes.specs.Classes.{IsClass, IsClassLens, IsImplied, IsTerms, beyond_for, days_for, is_counting, is_in, least_for}
 use Rattle.lens_classes.specs.Laws.{KeepsClass}
 use Rattle.lens_classes.specs.TermLines.{AreTermsOf}
+use Rattle.lens_classes.specs.declared.terms.Terms.{Terms}
 use Rattle.line_generator.specs.declared.classes.Class.{Class}
 use Rattle.line_generator.specs.declared.price.PricedLine.{PricedLine}
 
--- the bids are a class, and the line is in it
+-- a wish on credit or days off that all lines grant which keep the terms
+pub record IsImpliedBy (wish : Wish) (terms : Terms) : Type 0 where
+  pub whole : is_whole wish ≡ true
+  pub single : is_counting wish ≡ false
+  pub low : least_for wish ≤ terms.low
+  pub beyond : (base : ℕ) → terms.high < base → terms.high < beyond_for base wish
+  pub days : days_for wish ≤ terms.days_off
+
+-- a tracked bid that the set leaves out, though all lines that keep the terms grant it
+pub record LosesImplied (problem : Problem) (member : ℕ) (lens : Lens) (granted : ℕ → Bool) (terms : Terms) : Type 0 where
+  pub bid : ℕ
+  pub lost : Bid
+  pub there : slice_get (bids_of problem member) bid ≡ Some lost
+  pub tracked : is_tracked lens bid ≡ true
+  pub left : granted bid ≡ false
+  pub implied : IsImpliedBy lost.wish terms
+
+-- the bids are a class with each bid that is implied by it, and the line is in it
 pub record IsClassLine (problem : Problem) (member : ℕ) (goal : Goal) (node : List Decision) (lens : Lens) (granted : ℕ → Bool) (line : List ℕ) : Type 0 where
   pub is : IsClass problem member goal lens granted
+  pub closed :
+      (bid : ℕ) (b : Bid) → slice_get (bids_of problem member) bid ≡ Some b → is_tracked lens bid ≡ true
+      → IsImplied problem member lens granted b.wish → granted bid ≡ true
   pub keeps : KeepsClass problem member goal node lens granted line
 
 -- the terms and the lens of the class that grants these bids

@@ -7,6 +7,7 @@ ghost use Rattle.roster_model.specs.declared.node.Decision.{Decision};
 ghost use Rattle.lens_classes.specs.Classes.{IsClassLens, is_in};
 ghost use Rattle.line_generator.specs.ClassLines.{IsClassLine, IsClassOf};
 
+use crate::implied::loses_implied;
 use crate::reach::bids_weight;
 use crate::sets::trackable_bids;
 use duty_calendar::{List, Memory};
@@ -58,8 +59,8 @@ fn class_lens(
     })
 }
 
-/// The class that grants these bids, or nothing where it has no line: where it is none, or asks for more than all bids
-/// weigh.
+/// The class that grants these bids, or nothing where it is none, where all its lines grant a bid more, so that they are in
+/// another class, or where it asks for more than all bids weigh.
 pub(crate) fn class_of(
     alloc: Global,
     problem: &Problem,
@@ -78,6 +79,9 @@ pub(crate) fn class_of(
     let Some(terms) = class_terms(problem, member, goal, lens, granted) else {
         return Ok(None);
     };
+    if loses_implied(problem, member, lens, granted, &terms) {
+        return Ok(None);
+    }
     let narrow = class_lens(alloc, problem, member, lens, terms.days_off)?;
     if terms.floor > u64::from(bids_weight(problem, member)) {
         return Ok(None);

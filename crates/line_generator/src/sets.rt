@@ -34,10 +34,7 @@ fn has_trackable(problem: &Problem, member: u32, bid: u32) -> bool
 fn is_whole(wish: &Wish) -> bool
     ensures whole { result ≡ is_whole wish.now }
 {
-    match wish {
-        Wish::Fly(_) | Wish::Avoid(_) | Wish::Prefer(_, _) | Wish::Off(_, _) => false,
-        Wish::CreditBelow(_) | Wish::CreditAbove(_) | Wish::DaysOff(_) => true,
-    }
+    !is_trackable(wish)
 }
 
 /// Whether the member has a bid of this number that only a whole line decides.

@@ -4,7 +4,7 @@ use Rattle.std.specs.Prelude.{sum_by, nat_lt, nat_le, slice_index_or}
 use Rattle.std.specs.List.{list_any}
 use Rattle.std.proofs.lemmas.Int.{ints}
 use Rattle.std.proofs.lemmas.List.{get_or_past}
-use Rattle.std.proofs.lemmas.Bool.{and_parts, false≢true, cases_Bool, ne_eqb}
+use Rattle.std.proofs.lemmas.Bool.{and_parts, false≢true, cases_Bool, cases_lt, ne_eqb}
 use Rattle.std.proofs.lemmas.Bool.Decides.{nat_tests}
 use Rattle.duty_calendar.specs.declared.event.Event.{Event}
 use Rattle.label_lattice.specs.declared.masks.MaskEnd.{MaskEnd}
@@ -124,6 +124,22 @@ same_line count sink adds list taken source last same chain =
         go (suc t) e rest =
             ap (λ (b : Bool). b || list_any (λ j. slice_index_or list j count == p) chain) e ∙ ap (λ (b : Bool). (adds (suc t) == p) || b) rest
 
+eq_self : (a : ℕ) → (a == a) ≡ true
+eq_self a = grind (arith, nat_tests)
+
+eq_from : (a b : ℕ) → (a == b) ≡ true → a ≡ b
+eq_from a b h = grind (arith, nat_tests)
+
+-- what an arc adds weighs what it takes
+same_weight : (others : List ℤ) (count a b : ℕ) → length others ≡ count → ((p : ℕ) → p < count → (a == p) ≡ (b == p)) → weight_at others a ≡ weight_at others b
+same_weight others count a b is each = elim (cases_lt a count) [
+  | inl low ↦ ap (weight_at others) (sym (eq_from b a (sym (each a low) ∙ eq_self a)))
+  | inr high ↦ elim (cases_lt b count) [
+    | inl low ↦ ap (weight_at others) (eq_from a b (each b low ∙ eq_self b))
+    | inr past ↦ get_or_past others a (pos 0) (omega (arith, is, high)) ∙ sym (get_or_past others b (pos 0) (omega (arith, is, past)))
+  ]
+]
+
 module _ (N : ℕ) (problem : Problem) (member : ℕ) (node : List Decision) (lens : Lens) (terms : Terms)
     (adds : ℕ → ℕ) (sink : ℕ) (clear set : ℕ → ℕ) (bits : ℕ) (asks : MaskEnd)
     (follow : PartsFollow N problem member node lens terms adds sink clear set bits asks)
@@ -187,6 +203,9 @@ module _ (N : ℕ) (problem : Problem) (member : ℕ) (node : List Decision) (le
   starts : (k : ℕ) → 0 < k → k ≤ sink → near 0 k ≡ true
   starts = near_first (item_count problem member lens) sink adds (item_begins problem member lens) (item_rests problem member lens) sorted
 
+  past_none : (others : List ℤ) (n : ℕ) → length others ≡ length problem.base.pairings → count ≤ n → weight_at others n ≡ pos 0
+  past_none others n same le = get_or_past others n (pos 0) (omega (arith, same, le))
+
   no_gain : (t : ℕ) → count ≤ adds t → gain t ≡ pos 0
   no_gain t le = get_or_past weights (adds t) (pos 0) (omega arith)
 
@@ -204,13 +223,18 @@ module _ (N : ℕ) (problem : Problem) (member : ℕ) (node : List Decision) (le
   runs_back chain path c =
       chain_whole N problem member lens terms adds clear set sink bits asks from_source to_sink marked small sorted placed may must gain step graph.arcs taken are sorted.has_sink nears starts free_source chain path c
 
-  -- what the stops of a line gain
+  -- what the stops of a line weigh
+  weighed_by : (others : List ℤ) → length others ≡ length problem.base.pairings → (line : List ℕ) → IsFitLine problem member node line → is_base_open problem member lens terms ≡ true
+      → total (map (λ t. weight_at others (adds t)) (line_stops problem member lens adds sink line)) ≡ weight_of others line
+  weighed_by others same line fit wide =
+      let v = visited problem member node lens terms base base_is node_range adds sink sorted placed line fit wide in
+      ap total (sym (along_map (λ t. weight_at others (adds t)) 0 (line_stops problem member lens adds sink line)))
+      ∙ gains_weigh others (length problem.base.pairings) adds same (λ i j lt e. placed.once i j (omega arith) e) (line_stops problem member lens adds sink line) line v.up v.line_is
+
+  -- and gain
   weighed : (line : List ℕ) → IsFitLine problem member node line → is_base_open problem member lens terms ≡ true
       → total (map gain (line_stops problem member lens adds sink line)) ≡ weight_of weights line
-  weighed line fit wide =
-      let v = visited problem member node lens terms base base_is node_range adds sink sorted placed line fit wide in
-      ap total (sym (along_map gain 0 (line_stops problem member lens adds sink line)))
-      ∙ gains_weigh weights (length problem.base.pairings) adds long (λ i j lt e. placed.once i j (omega arith) e) (line_stops problem member lens adds sink line) line v.up v.line_is
+  weighed line fit wide = weighed_by weights long line fit wide
 
   abbrev line_by : List ℕ → List ℕ
   line_by chain = line_of (length problem.base.pairings) adds (stops_by sink (taken_by taken chain))
@@ -224,6 +248,9 @@ module _ (N : ℕ) (problem : Problem) (member : ℕ) (node : List Decision) (le
   pub record IsTakenLine (chain : List ℕ) (reached : ℤ) : Type 0 where
     pub passes : IsTermLine problem member node lens terms (line_of (length problem.base.pairings) adds (stops_by sink (taken_by taken chain)))
     pub weighs : reached ≡ weight_of weights (line_of (length problem.base.pairings) adds (stops_by sink (taken_by taken chain)))
+    pub once :
+        (others : List ℤ) → length others ≡ length problem.base.pairings
+        → total (map (λ t. weight_at others (adds t)) (taken_by taken chain)) ≡ weight_of others (line_of (length problem.base.pairings) adds (stops_by sink (taken_by taken chain)))
 
   -- the line of a feasible chain is a lens line, of the chain's gain
   pub chain_passes : (chain : List ℕ) (reached : ℤ) → IsFeasible (take_extend {N = N}) (take_done {N = N}) graph chain reached → IsTakenLine chain reached
@@ -248,6 +275,9 @@ module _ (N : ℕ) (problem : Problem) (member : ℕ) (node : List Decision) (le
             no_start reached (total (map gain (taken_by taken chain))) l.gains
             ∙ total_stops gain sink (no_gain 0 from_source) (no_gain sink to_sink) (taken_by taken chain)
             ∙ ap (λ (ks : List ℕ). total (map gain ks)) all.2 ∙ weighed (line_by chain) all.0 all.1;
+        once = λ others same.
+            total_stops (λ t. weight_at others (adds t)) sink (past_none others (adds 0) same from_source) (past_none others (adds sink) same to_sink) (taken_by taken chain)
+            ∙ ap (λ (ks : List ℕ). total (map (λ t. weight_at others (adds t)) ks)) all.2 ∙ weighed_by others same (line_by chain) all.0 all.1;
       }
     where
       nonempty : (chain : List ℕ) → IsPath graph.arcs 0 chain sink → Runs chain → RunsAlong (stops_by sink (taken_by taken chain))
@@ -294,10 +324,24 @@ module _ (N : ℕ) (problem : Problem) (member : ℕ) (node : List Decision) (le
     lines_same : (chain : List ℕ) → line_along (length problem.base.pairings) list chain ≡ line_of (length problem.base.pairings) adds (stops_by sink (taken_by taken chain))
     lines_same = same_line (length problem.base.pairings) sink adds list taken from_source to_sink same_adds
 
+    same_total : (others : List ℤ) → length others ≡ count → (chain : List ℕ)
+        → total (map (λ number. weight_at others (slice_index_or list number count)) chain) ≡ total (map (λ t. weight_at others (adds t)) (taken_by taken chain))
+    same_total others is [] = refl
+    same_total others is (number ∷ chain) =
+        let here = same_weight others count (slice_index_or list number count) (adds (slice_index_or taken number 0)) is (same_adds number) in
+        let rest = same_total others is chain in
+        cong_sum here rest
+      where
+        cong_sum : {a b c d : ℤ} → a ≡ b → c ≡ d → (a +ℤ c) ≡ (b +ℤ d)
+        cong_sum p q = rw (p, q) refl
+
     pub stands_by_arcs : StandsByArcs (take_extend {N = N}) (take_done {N = N}) graph list problem member node lens terms weights
     stands_by_arcs = record {
       per_arc = per_arc;
       lines = λ chain reached feasible. subst (IsTermLine problem member node lens terms) (sym (lines_same chain)) (chain_passes chain reached feasible).passes;
       weighs = λ chain reached feasible. subst (λ (line : List ℕ). reached ≡ weight_of weights line) (sym (lines_same chain)) (chain_passes chain reached feasible).weighs;
+      once = λ chain reached feasible others is.
+          same_total others is chain ∙ (chain_passes chain reached feasible).once others is
+          ∙ ap (weight_of others) (sym (lines_same chain));
       chains = λ line is. let c = line_chained line is in (c.chain, c.feasible, lines_same c.chain ∙ c.line_is);
     }

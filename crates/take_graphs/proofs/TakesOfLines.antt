@@ -81,7 +81,7 @@ arc_adds count total le items source (t ∷ taken) zero p lt = same_adds count t
 arc_adds count total le items source (t ∷ taken) (suc number) p lt = arc_adds count total le items source taken number p lt
 
 module _ {N : ℕ} (problem : Problem) (member : ℕ) (node : List Decision) (lens : Lens) (terms : Terms) (weights : List ℤ)
-    (long : length weights ≡ length problem.base.pairings) (shape : IsLens problem member lens) (plain : lens.whole ≡ false) (fits : AreTermsOf problem member terms) (few : length lens.windows ≤ N) (decisions : IsNode problem node)
+    (long : length weights ≡ length problem.base.pairings) (shape : IsLens problem member lens) (plain : lens.whole ≡ false) (fits : AreTermsOf problem member terms) (none : terms.counted ≡ 0) (few : length lens.windows ≤ N) (decisions : IsNode problem node)
     (items : List ℕ) (order : IsItemOrder problem member lens items)
     (chart : Chart N) (is : IsChart problem member node lens terms weights items chart)
     (bits : ℕ) (starts : IsMask problem member lens Start bits) (asks : MaskEnd) (end : IsBidsEnd problem member lens terms asks)
@@ -116,7 +116,7 @@ module _ {N : ℕ} (problem : Problem) (member : ℕ) (node : List Decision) (le
       stands_by_arcs N problem member node lens terms at (item_count problem member lens + 1)
       (clears problem member node lens terms weights long items order chart is) (sets problem member node lens terms weights long items order chart is) bits asks
       (parts_follow N problem member node lens terms at (item_count problem member lens + 1)
-      (clears problem member node lens terms weights long items order chart is) (sets problem member node lens terms weights long items order chart is) bits asks fits shape plain few masks end)
+      (clears problem member node lens terms weights long items order chart is) (sets problem member node lens terms weights long items order chart is) bits asks fits none shape plain few masks end)
       (is_base_open problem member lens terms) refl
       (λ p must. decided_range (length problem.base.pairings) node member p true (recursion_from_All (λ d. d.pairing < length problem.base.pairings) node decisions.pairings) must)
       sorted placed masks small weights long graph

@@ -70,6 +70,7 @@ impl<const N: usize> TakeDesk<N> {
         requires fits { length problem.now.base.pairings ≤ self.old.pairings }
         requires member_in_range { member < length problem.now.base.members }
         requires terms { AreTermsOf problem.now member terms.now }
+        requires none { terms.now.counted ≡ 0 }
         requires node { IsNode problem.now node.now }
         requires lens { IsLens problem.now member lens.now }
         requires plain { lens.now.whole ≡ false }

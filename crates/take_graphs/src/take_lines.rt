@@ -162,6 +162,7 @@ pub(crate) fn fill_takes<const N: usize>(
 ) -> Result<TakeEnds<N>, Memory>
     requires member_in_range { member < length problem.now.base.members }
     requires terms { AreTermsOf problem.now member terms.now }
+    requires none { terms.now.counted ≡ 0 }
     requires node { IsNode problem.now node.now }
     requires lens { IsLens problem.now member lens.now }
     requires plain { lens.now.whole ≡ false }
@@ -225,6 +226,7 @@ pub fn take_graph<const N: usize>(
 ) -> Result<TakeGraph<N>, Memory>
     requires member_in_range { member < length problem.now.base.members }
     requires terms { AreTermsOf problem.now member terms.now }
+    requires none { terms.now.counted ≡ 0 }
     requires node { IsNode problem.now node.now }
     requires lens { IsLens problem.now member lens.now }
     requires plain { lens.now.whole ≡ false }

@@ -1,10 +1,17 @@
-use Rattle.std.proofs.Common.{◌≡◌, arith}
+use Rattle.std.proofs.Common.{◌≡◌, [], arith}
+use Rattle.lens_classes.specs.Classes.{is_in}
+use Rattle.line_generator.proofs.ClassBests.{loses_none}
 use Rattle.line_generator.proofs.FoundLines.{at_none, at_some}
 use Rattle.line_generator.proofs.Reaching.{out_of_reach}
 use Rattle.line_generator.proofs.classes.class_of.Goals as goal
 
 pub returns-in_default-clause-none : goal.returns-in_default-clause-none
 returns-in_default-clause-none c = λ node line is. at_none _ _ c.in_default.is c.class_terms.ensures.none is.is
+
+pub returns-then-loses_implied-clause-none : goal.returns-then-loses_implied-clause-none
+returns-then-loses_implied-clause-none c = λ node line is.
+    loses_none c.args.problem.now c.args.member c.args.goal.now node c.args.lens.now [] (is_in c.args.granted) c.in-Some.terms c.in-Some.ensures.terms c.in-Some.ensures.fits
+    (c.loses_implied.ensures.implied c.if-loses_implied.true) line is
 
 pub returns-then-terms-from-clause-none : goal.returns-then-terms-from-clause-none
 returns-then-terms-from-clause-none c = λ node line is.

@@ -70,7 +70,7 @@ returns-clause-stands g c =
     let most = c.in_ok-places.ensures.few in
     let few : length c.fill_arcs.new.parts.arcs.items + 3 ≤ 2 * c.in_ok-places.places = omega (arith, most, long) in
     let is = is_take_graph {N = g.row.N} problem c.args.member c.args.node.now c.args.lens.now c.args.terms.now c.args.weights.now
-    c.requires.per_pairing c.requires.lens c.requires.plain c.requires.terms c.requires.windows c.requires.node items order chart charted
+    c.requires.per_pairing c.requires.lens c.requires.plain c.requires.terms c.requires.none c.requires.windows c.requires.node items order chart charted
     c.take_start.result.second.first.bits c.take_start.ensures.bits c.end_label.result.1.0 c.end_label.ensures.bids
     (record { places = c.in_ok-places.places; start = c.take_start.result; end = c.end_label.result; arcs = c.fill_arcs.new.parts.arcs.items }) long c.take_start.ensures.start c.end_label.ensures.end
     c.fill_arcs.new.parts.taken.items c.in_ok-places.ensures.arcs c.fill_arcs.new.parts.adds.items adds few in
@@ -112,7 +112,7 @@ returns-clause-few g c =
     let most = c.in_ok-places.ensures.few in
     let few : length c.fill_arcs.new.parts.arcs.items + 3 ≤ 2 * c.in_ok-places.places = omega (arith, most, long) in
     let is = is_take_graph {N = g.row.N} problem c.args.member c.args.node.now c.args.lens.now c.args.terms.now c.args.weights.now
-    c.requires.per_pairing c.requires.lens c.requires.plain c.requires.terms c.requires.windows c.requires.node items order chart charted
+    c.requires.per_pairing c.requires.lens c.requires.plain c.requires.terms c.requires.none c.requires.windows c.requires.node items order chart charted
     c.take_start.result.second.first.bits c.take_start.ensures.bits c.end_label.result.1.0 c.end_label.ensures.bids
     (record { places = c.in_ok-places.places; start = c.take_start.result; end = c.end_label.result; arcs = c.fill_arcs.new.parts.arcs.items }) long c.take_start.ensures.start c.end_label.ensures.end
     c.fill_arcs.new.parts.taken.items c.in_ok-places.ensures.arcs c.fill_arcs.new.parts.adds.items adds few in
@@ -132,7 +132,7 @@ returns-clause-labels g c =
     let most = c.in_ok-places.ensures.few in
     let few : length c.fill_arcs.new.parts.arcs.items + 3 ≤ 2 * c.in_ok-places.places = omega (arith, most, long) in
     let is = is_take_graph {N = g.row.N} problem c.args.member c.args.node.now c.args.lens.now c.args.terms.now c.args.weights.now
-    c.requires.per_pairing c.requires.lens c.requires.plain c.requires.terms c.requires.windows c.requires.node items order chart charted
+    c.requires.per_pairing c.requires.lens c.requires.plain c.requires.terms c.requires.none c.requires.windows c.requires.node items order chart charted
     c.take_start.result.second.first.bits c.take_start.ensures.bits c.end_label.result.1.0 c.end_label.ensures.bids
     (record { places = c.in_ok-places.places; start = c.take_start.result; end = c.end_label.result; arcs = c.fill_arcs.new.parts.arcs.items }) long c.take_start.ensures.start c.end_label.ensures.end
     c.fill_arcs.new.parts.taken.items c.in_ok-places.ensures.arcs c.fill_arcs.new.parts.adds.items adds few in

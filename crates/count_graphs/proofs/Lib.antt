@@ -1,0 +1,5 @@
+pub mod CountChains
+pub mod Counted
+pub mod CountLines
+pub mod CountLoops
+pub mod FewCounted

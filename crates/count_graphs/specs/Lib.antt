@@ -1,0 +1,3 @@
+pub mod Counts
+pub mod CountLabels
+pub mod CountGraphs
