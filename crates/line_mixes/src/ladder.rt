@@ -37,13 +37,14 @@ fn trackable_bids(problem: &Problem, member: usize) -> u64 {
     tracked
 }
 
-/// Whether the wish is about the whole line's credit or days off, and some legal lines of the member may not grant it.
+/// Whether the wish is about the whole line, and some legal lines of the member may not grant it.
 pub(crate) fn is_of_line(problem: &Problem, member: &Member, wish: &Wish) -> bool {
     match wish {
+        Wish::Prefer(least, _) => *least > 1,
         Wish::CreditBelow(minutes) => *minutes <= member.high,
         Wish::CreditAbove(minutes) => *minutes >= member.low,
         Wish::DaysOff(days) => *days > problem.base.rules.days_off,
-        Wish::Fly(_) | Wish::Avoid(_) | Wish::Off(_, _) | Wish::Prefer(_, _) => false,
+        Wish::Fly(_) | Wish::Avoid(_) | Wish::Off(_, _) => false,
     }
 }
 

@@ -1,5 +1,5 @@
 -- How long the texts of lenses and items are at most, and how many lenses a proof has.
-use Rattle.std.proofs.Common.{◌≡◌, ℕ, zero, suc, ◌+◌, ◌*◌, ◌/◌, ◌%◌, ◌^◌, ◌<◌, ◌≤◌, Bool, true, false, cond, ℤ, pos, negsuc, List, [], ◌∷◌, ◌++◌, length, map, decimal, codes, refl, sym, ap, ◌∙◌, arith, lit≤, lit<, lt_of_lt_of_le, length-append}
+use Rattle.std.proofs.Common.{◌≡◌, ℕ, zero, suc, ◌+◌, ◌*◌, ◌/◌, ◌%◌, ◌^◌, ◌<◌, ◌≤◌, Bool, true, false, cond, ℤ, pos, negsuc, List, [], ◌∷◌, ◌++◌, length, map, decimal, codes, refl, ap, arith, lit≤, lit<, lt_of_lt_of_le, length-append}
 use Rattle.std.specs.Prelude.{All}
 use Rattle.std.specs.List.{flat_map}
 use Rattle.std.proofs.lemmas.Grind.{flat_map-append}
@@ -13,7 +13,7 @@ use Rattle.roster_model.specs.declared.proof.WindowKind.TheVariants.{Flight672, 
 use Rattle.roster_model.specs.Weights.{IsSmallWeight}
 use Rattle.cert_text.proofs.KeyLaws.{IsPlaced, place_new, placed, after_length}
 use Rattle.cert_text.specs.Fields.{kind_word, is_zero}
-use Rattle.cert_text.specs.Spelling.{spaced, words_text, line_text, index_text, flag_text, weight_text, hex_digit, hex_text, bits_text, window_text, lens_words, lens_word, lens_key, is_kept, with_key, place_in, number_text, numbers_text, keys_after, entry_text, entries_text, key_line}
+use Rattle.cert_text.specs.Spelling.{spaced, words_text, line_text, flag_text, weight_text, hex_digit, hex_text, bits_text, window_text, lens_words, lens_word, lens_key, is_kept, with_key, place_in, number_text, numbers_text, keys_after, entry_text, entries_text, key_line}
 use Rattle.month_award.proofs.Numbers.{HasSmallNumbers}
 
 pub number-length : (n : ℕ) → n < 2 ^ 32 → length (decimal n) ≤ 10

@@ -1,7 +1,6 @@
 -- The numbers of lenses and items are within the limits of certificates.
-use Rattle.std.proofs.Common.{◌≡◌, ℕ, zero, suc, ◌+◌, ◌*◌, ◌/◌, ◌%◌, ◌^◌, ◌<◌, ◌≤◌, Bool, true, false, ◌||◌, ◌&&◌, ◌==◌, List, [], ◌∷◌, length, Some, None, refl, sym, ap, ◌∙◌, arith, inl, inr, mod-lt, div-add-mod', zero-mul, pow_pos, shr-shr}
+use Rattle.std.proofs.Common.{◌≡◌, ℕ, zero, suc, ◌+◌, ◌*◌, ◌/◌, ◌%◌, ◌^◌, ◌<◌, ◌≤◌, Bool, true, false, ◌||◌, ◌&&◌, ◌==◌, List, [], ◌∷◌, length, None, refl, sym, ap, ◌∙◌, arith, inl, inr, mod-lt, div-add-mod', zero-mul, pow_pos, shr-shr}
 use Rattle.std.specs.Prelude.{All, nat_lt, nat_le, slice_get, unwrap_or, ℤ, pos, negsuc}
-use Rattle.std.specs.List.{list_all}
 use Rattle.std.specs.Int.{bit_at}
 use Rattle.std.specs.Option.{option_map_or}
 use Rattle.std.proofs.lemmas.Bool.{cases_eq, eq-eqb, eqb-true, or_cases, and_from, false≢true}
@@ -12,7 +11,6 @@ use Rattle.std.proofs.lemmas.List.Sums.{list_all-from_AllPass}
 use Rattle.std.proofs.lemmas.Nat.Bits.{bit_at_lowest, bit_at-suc, bit_at-lt}
 use Rattle.std.proofs.lemmas.Option.{slice_get_past}
 use Rattle.jiff_core.proofs.CalendarLemmas.{days_in_month_bounds}
-use Rattle.duty_calendar.specs.Calendar.{month_days}
 use Rattle.duty_calendar.specs.Minutes.{count_between}
 use Rattle.roster_model.specs.declared.bid.Bid.{Bid}
 use Rattle.roster_model.specs.declared.problem.Problem.{Problem}
@@ -21,9 +19,9 @@ use Rattle.roster_model.specs.declared.proof.WindowKind.{WindowKind}
 use Rattle.roster_model.specs.declared.proof.WindowKind.TheVariants.{Flight672, Duty672, Duty168, Flight365}
 use Rattle.roster_model.specs.Scores.{bids_of}
 use Rattle.roster_model.specs.Weights.{IsSmallWeight}
-use Rattle.roster_model.specs.Lenses.{IsLens, IsInstance, is_grain, is_tracked, is_trackable, is_whole, is_whole_tracked, may_track}
+use Rattle.roster_model.specs.Lenses.{IsLens, IsInstance, is_grain, is_trackable, is_whole, is_whole_tracked, may_track}
 use Rattle.cert_text.specs.declared.limits.TheConstants.{LAST_INDEX, LAST_MINUTE, GREATEST_WEIGHT, MOST_WINDOWS}
-use Rattle.cert_text.specs.Limits.{is_few, is_index, is_weight, is_window, is_lens}
+use Rattle.cert_text.specs.Limits.{is_index, is_weight, is_window, is_lens}
 
 pub below : (n most : ℕ) → n < most → nat_lt n most ≡ true
 below n most lt = grind (arith, nat_tests)
