@@ -1,0 +1,9 @@
+pub mod Spelled
+pub mod Months
+pub mod Inserted
+pub mod OneMonth
+pub mod Needs
+pub mod Attempts
+pub mod Openings
+pub mod Unfilled
+pub mod Judgings

@@ -1,0 +1,6 @@
+pub mod Vacant
+pub mod Eligible
+pub mod Refuted
+pub mod Tries
+pub mod Opened
+pub mod Judged
