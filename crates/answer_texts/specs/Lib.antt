@@ -10,3 +10,4 @@ pub mod TrialTexts
 pub mod MigrateTexts
 pub mod TradeTexts
 pub mod CalendarTexts
+pub mod WhatIfTexts

@@ -12,6 +12,7 @@ mod show_ends;
 mod status;
 mod trade_ends;
 mod trial_ends;
+mod whatif_ends;
 mod write_ends;
 
 pub use award_ends::{award_status, award_text};
@@ -24,3 +25,4 @@ pub use show_ends::{show_status, show_text};
 pub use status::Status;
 pub use trade_ends::{trade_status, trade_text};
 pub use trial_ends::{trial_status, trial_text};
+pub use whatif_ends::{whatif_status, whatif_text};

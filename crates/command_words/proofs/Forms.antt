@@ -58,8 +58,8 @@ sized a b c option = record { nodes = option; member = None; number = Some a; me
 pub make_form : (a b c : Text) → IsPlain a → IsPlain b → IsPlain c → Reads (codes "make" ∷ a ∷ b ∷ c ∷ []) (sized a b c None)
 unfolding clap_on_literals
 make_form a b c p q r = record {
-  taken = simp (p.trail, p.flag, q.trail, q.flag, r.trail, r.flag) refl;
-  found = simp (p.trail, p.flag, q.trail, q.flag, r.trail, r.flag) refl;
+  taken = simp (p.trail, p.flag) (simp (q.trail, q.flag) (rw (r.trail, r.flag, r.flag) refl));
+  found = simp (p.trail, p.flag) (simp (q.trail, q.flag) (rw (r.trail, r.flag, r.flag) refl));
 }
 
 pub trial_form : (a b c : Text) → IsPlain a → IsPlain b → IsPlain c → Reads (codes "trial" ∷ a ∷ b ∷ c ∷ []) (sized a b c None)
@@ -123,4 +123,33 @@ unfolding clap_on_literals
 one_last a b c n p q r = record {
   taken = simp (p.trail, p.flag) (simp (q.trail, q.flag) (rw (r.trail, r.flag, r.flag) refl));
   found = simp (p.trail, p.flag) (simp (q.trail, q.flag) (rw (r.trail, r.flag, r.flag) refl));
+}
+
+-- ---- a command with one argument and the option
+
+abbrev pub asking : Text → Option Text → Texts
+asking name option = record no_texts { nodes = option; member = Some name }
+
+-- how clap reads the words of the command with this first word
+pub record ReadsOne (word : Text) (texts : Text → Option Text → Texts) : Type 0 where
+  pub alone : (a : Text) → IsPlain a → Reads (word ∷ a ∷ []) (texts a None)
+  pub two_first : (a n : Text) → IsPlain a → IsPlain n → Reads (word ∷ codes "--nodes" ∷ n ∷ a ∷ []) (texts a (Some n))
+  pub two_last : (a n : Text) → IsPlain a → IsPlain n → Reads (word ∷ a ∷ codes "--nodes" ∷ n ∷ []) (texts a (Some n))
+  pub one_first : (a n : Text) → IsPlain a → Reads (word ∷ (codes "--nodes=" ++ n) ∷ a ∷ []) (texts a (Some n))
+  pub one_last : (a n : Text) → IsPlain a → Reads (word ∷ a ∷ (codes "--nodes=" ++ n) ∷ []) (texts a (Some n))
+
+pub whatif_forms : ReadsOne (codes "whatif") asking
+unfolding clap_on_literals
+whatif_forms = record {
+  alone = λ a p. record { taken = simp (p.trail, p.flag) refl; found = simp (p.trail, p.flag) refl };
+  two_first = λ a n p s. record {
+    taken = simp (s.trail, s.flag) (simp (p.trail, p.flag) refl);
+    found = simp (s.trail, s.flag) (simp (p.trail, p.flag) refl);
+  };
+  two_last = λ a n p s. record {
+    taken = simp (p.trail, p.flag) (simp (s.trail, s.flag) refl);
+    found = simp (p.trail, p.flag) (simp (s.trail, s.flag) refl);
+  };
+  one_first = λ a n p. record { taken = simp (p.trail, p.flag) refl; found = simp (p.trail, p.flag) refl };
+  one_last = λ a n p. record { taken = simp (p.trail, p.flag) refl; found = simp (p.trail, p.flag) refl };
 }

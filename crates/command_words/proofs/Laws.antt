@@ -15,13 +15,13 @@ use Rattle.field_text.specs.Form.{fault_from}
 use Rattle.field_text.specs.declared.field_fault.FieldFault.{FieldFault}
 use Rattle.field_text.proofs.Numbers.{number-other}
 use Rattle.command_words.specs.Numbers.{within, number_in, if_read, long_in, long_field, nodes_in, sizes_in}
-use Rattle.command_words.specs.Words.{Parts, is_argument, is_joined, apart, behind, option_out, alone_in, name_in, award_in, show_in, make_in, trial_in, calendar_in, command_in}
+use Rattle.command_words.specs.Words.{Parts, is_argument, is_joined, apart, behind, option_out, alone_in, name_in, award_in, show_in, make_in, trial_in, calendar_in, whatif_in, command_in}
 use Rattle.command_words.specs.Spelling.{Stands, Spells}
 use Rattle.command_words.specs.Spelling.Stands.{alone, two_words, one_word}
-use Rattle.command_words.specs.Spelling.Spells.{check, award, show, make, trial, migrate, trade, calendar}
+use Rattle.command_words.specs.Spelling.Spells.{check, award, show, make, trial, migrate, trade, calendar, whatif}
 use Rattle.command_words.specs.declared.command.Sizes.{Sizes}
 use Rattle.command_words.specs.declared.command.Command.{Command}
-use Rattle.command_words.specs.declared.command.Command.TheVariants.{Check, Award, Show, Make, Trial, Migrate, Trade, Calendar}
+use Rattle.command_words.specs.declared.command.Command.TheVariants.{Check, Award, Show, Make, Trial, Migrate, Trade, Calendar, WhatIf}
 
 -- ---- what a read number tells of its word
 
@@ -157,6 +157,8 @@ spelt_read _ _ (trial rest a b c option sizes nodes stands written allowed) =
 spelt_read _ _ migrate = refl
 spelt_read _ _ trade = refl
 spelt_read _ _ (calendar name plain) = rw plain refl
+spelt_read _ _ (whatif rest name option nodes stands plain allowed) =
+    ap (λ (p : Parts). whatif_in p.arguments p.nodes) (stands_out (name ∷ []) option rest (plain, tt) stands) ∙ rw (plain, allowed) refl
 
 -- ---- a command that is read is spelt
 
@@ -220,47 +222,60 @@ trial_spelt (a ∷ (b ∷ (c ∷ []))) option rest command s h =
     subst (Spells (codes "trial" ∷ rest)) m.2 (trial rest a b c option sizes m.0 s e m.1))
 trial_spelt (a ∷ (b ∷ (c ∷ (w ∷ ws)))) option rest command s h = absurd cc
 
+pub whatif_spelt : (arguments : List (List ℕ)) (option : Option (List ℕ)) (rest : List (List ℕ)) (command : Command) → Stands arguments option rest
+    → whatif_in arguments option ≡ Some command → Spells (codes "whatif" ∷ rest) command
+whatif_spelt arguments option rest command s h =
+    option_and_then_some (λ (name : List ℕ). option_map (λ (n : ℕ). WhatIf name n) (nodes_in option)) (name_in arguments) command h
+    (λ name e k.
+    let m = mapped (λ (n : ℕ). WhatIf name n) (nodes_in option) command k in
+    let p = name_alone arguments name e in
+    subst (Spells (codes "whatif" ∷ rest)) m.2 (whatif rest name option m.0 (subst (λ (a : List (List ℕ)). Stands a option rest) p.0 s) p.1 m.1))
+
 is_word : (word text : List ℕ) → bytes_eq word text ≡ true → text ≡ word
 is_word word text h = sym ((bytes_eq-Decides word text).0 h)
 
 renamed : (text word : List ℕ) (rest : List (List ℕ)) (command : Command) → bytes_eq word text ≡ true → Spells (text ∷ rest) command → Spells (word ∷ rest) command
 renamed text word rest command e s = subst (λ (w : List ℕ). Spells (w ∷ rest) command) (is_word word text e) s
 
--- by the first word: each of the readings has its spelling
-pub by_word : (word : List ℕ) (rest : List (List ℕ)) (command : Command) (c a s m t g d k : Option Command)
+-- by the first word: where it is this text, by the reading of this command
+by_text : (text word : List ℕ) (rest : List (List ℕ)) (command : Command) (here later : Option Command)
+    → (here ≡ Some command → Spells (text ∷ rest) command) → (later ≡ Some command → Spells (word ∷ rest) command)
+    → (if bytes_eq word text then here else later) ≡ Some command → Spells (word ∷ rest) command
+by_text text word rest command here later f g = go (bytes_eq word text) refl
+  where
+    go : (t : Bool) → bytes_eq word text ≡ t → cond t here later ≡ Some command → Spells (word ∷ rest) command
+    go true e h = renamed text word rest command e (f h)
+    go false e h = g h
+
+-- each of the readings has its spelling
+pub by_word : (word : List ℕ) (rest : List (List ℕ)) (command : Command) (c a s m t g d k w : Option Command)
     → (c ≡ Some command → Spells (codes "check" ∷ rest) command) → (a ≡ Some command → Spells (codes "award" ∷ rest) command)
     → (s ≡ Some command → Spells (codes "show" ∷ rest) command) → (m ≡ Some command → Spells (codes "make" ∷ rest) command)
     → (t ≡ Some command → Spells (codes "trial" ∷ rest) command) → (g ≡ Some command → Spells (codes "migrate" ∷ rest) command)
     → (d ≡ Some command → Spells (codes "trade" ∷ rest) command) → (k ≡ Some command → Spells (codes "calendar" ∷ rest) command)
+    → (w ≡ Some command → Spells (codes "whatif" ∷ rest) command)
     → (if bytes_eq word (codes "check") then c else (if bytes_eq word (codes "award") then a
     else (if bytes_eq word (codes "show") then s else (if bytes_eq word (codes "make") then m
     else (if bytes_eq word (codes "trial") then t else (if bytes_eq word (codes "migrate") then g
-    else (if bytes_eq word (codes "trade") then d else (if bytes_eq word (codes "calendar") then k else None)))))))) ≡ Some command
+    else (if bytes_eq word (codes "trade") then d else (if bytes_eq word (codes "calendar") then k
+    else (if bytes_eq word (codes "whatif") then w else None))))))))) ≡ Some command
     → Spells (word ∷ rest) command
-by_word word rest command c a s m t g d k fc fa fs fm ft fg fd fk =
-    go (bytes_eq word (codes "check")) (bytes_eq word (codes "award")) (bytes_eq word (codes "show")) (bytes_eq word (codes "make")) (bytes_eq word (codes "trial"))
-    (bytes_eq word (codes "migrate")) (bytes_eq word (codes "trade")) (bytes_eq word (codes "calendar")) refl refl refl refl refl refl refl refl
-  where
-    go : (p q r u v x y z : Bool) → bytes_eq word (codes "check") ≡ p → bytes_eq word (codes "award") ≡ q → bytes_eq word (codes "show") ≡ r
-        → bytes_eq word (codes "make") ≡ u → bytes_eq word (codes "trial") ≡ v → bytes_eq word (codes "migrate") ≡ x → bytes_eq word (codes "trade") ≡ y
-        → bytes_eq word (codes "calendar") ≡ z
-        → cond p c (cond q a (cond r s (cond u m (cond v t (cond x g (cond y d (cond z k None))))))) ≡ Some command → Spells (word ∷ rest) command
-    go true q r u v x y z ep eq er eu ev ex ey ez h = renamed (codes "check") word rest command ep (fc h)
-    go false true r u v x y z ep eq er eu ev ex ey ez h = renamed (codes "award") word rest command eq (fa h)
-    go false false true u v x y z ep eq er eu ev ex ey ez h = renamed (codes "show") word rest command er (fs h)
-    go false false false true v x y z ep eq er eu ev ex ey ez h = renamed (codes "make") word rest command eu (fm h)
-    go false false false false true x y z ep eq er eu ev ex ey ez h = renamed (codes "trial") word rest command ev (ft h)
-    go false false false false false true y z ep eq er eu ev ex ey ez h = renamed (codes "migrate") word rest command ex (fg h)
-    go false false false false false false true z ep eq er eu ev ex ey ez h = renamed (codes "trade") word rest command ey (fd h)
-    go false false false false false false false true ep eq er eu ev ex ey ez h = renamed (codes "calendar") word rest command ez (fk h)
-    go false false false false false false false false ep eq er eu ev ex ey ez h = absurd cc
+by_word word rest command c a s m t g d k w fc fa fs fm ft fg fd fk fw =
+    by_text (codes "check") word rest command c _ fc (by_text (codes "award") word rest command a _ fa
+    (by_text (codes "show") word rest command s _ fs (by_text (codes "make") word rest command m _ fm
+    (by_text (codes "trial") word rest command t _ ft (by_text (codes "migrate") word rest command g _ fg
+    (by_text (codes "trade") word rest command d _ fd (by_text (codes "calendar") word rest command k _ fk
+    (by_text (codes "whatif") word rest command w None fw (λ h. absurd cc)))))))))
 
 pub read_spelt : (words : List (List ℕ)) (command : Command) → command_in words ≡ Some command → Spells words command
 read_spelt [] command h = absurd cc
 read_spelt (word ∷ rest) command h =
-    by_word word rest command (alone_in Check rest) (award_in (option_out rest).arguments (option_out rest).nodes) (show_in rest) (make_in rest)
-    (trial_in (option_out rest).arguments (option_out rest).nodes) (alone_in Migrate rest) (alone_in Trade rest) (calendar_in rest)
-    (alone_spelt (codes "check") Check check rest command) (award_spelt (option_out rest).arguments (option_out rest).nodes rest command (out_stands rest))
-    (show_spelt rest command) (make_spelt rest command)
-    (trial_spelt (option_out rest).arguments (option_out rest).nodes rest command (out_stands rest))
-    (alone_spelt (codes "migrate") Migrate migrate rest command) (alone_spelt (codes "trade") Trade trade rest command) (calendar_spelt rest command) h
+    let arguments = (option_out rest).arguments in
+    let option = (option_out rest).nodes in
+    by_word word rest command (alone_in Check rest) (award_in arguments option) (show_in rest) (make_in rest)
+    (trial_in arguments option) (alone_in Migrate rest) (alone_in Trade rest) (calendar_in rest)
+    (whatif_in arguments option)
+    (alone_spelt (codes "check") Check check rest command) (award_spelt arguments option rest command (out_stands rest))
+    (show_spelt rest command) (make_spelt rest command) (trial_spelt arguments option rest command (out_stands rest))
+    (alone_spelt (codes "migrate") Migrate migrate rest command) (alone_spelt (codes "trade") Trade trade rest command) (calendar_spelt rest command)
+    (whatif_spelt arguments option rest command (out_stands rest)) h

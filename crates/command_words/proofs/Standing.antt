@@ -11,12 +11,12 @@ use Rattle.command_words.specs.Numbers.{nodes_in, sizes_in}
 use Rattle.command_words.specs.Words.{is_argument, alone_in}
 use Rattle.command_words.specs.Spelling.{Stands, Spells}
 use Rattle.command_words.specs.Spelling.Stands.{alone, two_words, one_word}
-use Rattle.command_words.specs.Spelling.Spells.{check, award, show, make, trial, migrate, trade, calendar}
-use Rattle.command_words.specs.Reading.{Texts, joins, same_words, begins_apart, begins, heads, has_option, stands, award_read, name_read, sizes_read, make_read, trial_read, named_read}
+use Rattle.command_words.specs.Spelling.Spells.{check, award, show, make, trial, migrate, trade, calendar, whatif}
+use Rattle.command_words.specs.Reading.{Texts, joins, same_words, begins_apart, begins, heads, has_option, stands, award_read, one_read, name_read, sizes_read, make_read, trial_read, whatif_read, named_read}
 use Rattle.command_words.proofs.Laws.{by_word, alone_spelt, mapped, moved}
 use Rattle.command_words.specs.declared.command.Sizes.{Sizes}
 use Rattle.command_words.specs.declared.command.Command.{Command}
-use Rattle.command_words.specs.declared.command.Command.TheVariants.{Check, Award, Show, Make, Trial, Migrate, Trade, Calendar}
+use Rattle.command_words.specs.declared.command.Command.TheVariants.{Check, Award, Show, Make, Trial, Migrate, Trade, Calendar, WhatIf}
 
 -- ---- words that pass the test stand so
 
@@ -136,24 +136,39 @@ award_given words option command h = by (stands words [] option) refl h
 some_text : (a b : Text) → Some a ≡ Some b → a ≡ b
 some_text a b h = cc
 
+no_option : (arguments : List Text) (option : Option Text) (words : List Text) → Stands arguments option words → option ≡ None → words ≡ arguments
+no_option arguments option words (alone none same) e = same
+no_option arguments option words (two_words before after n all some same) e = absurd cc
+no_option arguments option words (one_word before after n all some same) e = absurd cc
+
+-- the words are this argument, with the option where there is one
+record IsOneOf (words : List Text) (option : Option Text) (word : Text) : Type 0 where
+  standing : Stands (word ∷ []) option words
+  plain : is_argument word ≡ true
+
+one_tested : (words : List Text) (option : Option Text) (text word : Text) → (if is_argument text && stands words (text ∷ []) option then Some text else None) ≡ Some word
+    → IsOneOf words option word
+one_tested words option text word h = by (is_argument text && stands words (text ∷ []) option) refl h
+  where
+    by : (t : Bool) → (is_argument text && stands words (text ∷ []) option) ≡ t → cond t (Some text) None ≡ Some word → IsOneOf words option word
+    by true e h =
+        let p = and_parts (is_argument text) (stands words (text ∷ []) option) e in
+        subst (IsOneOf words option) (some_text text word h) (record { standing = stands_true words (text ∷ []) option p.1; plain = p.0 })
+    by false e h = absurd cc
+
+one_given : (words : List Text) (option argument : Option Text) (word : Text) → one_read words option argument ≡ Some word → IsOneOf words option word
+one_given words option argument word h =
+    option_and_then_some (λ (text : Text). if is_argument text && stands words (text ∷ []) option then Some text else None) argument word h
+    (λ text e k. one_tested words option text word k)
+
 -- the words are this name
 abbrev IsNameOf : List Text → Text → Type 0
 IsNameOf words name = (words ≡ name ∷ []) × (is_argument name ≡ true)
 
-name_tested : (words : List Text) (text name : Text) → (if is_argument text && same_words words (text ∷ []) then Some text else None) ≡ Some name
-    → IsNameOf words name
-name_tested words text name h = by (is_argument text && same_words words (text ∷ [])) refl h
-  where
-    by : (t : Bool) → (is_argument text && same_words words (text ∷ [])) ≡ t → cond t (Some text) None ≡ Some name → IsNameOf words name
-    by true e h =
-        let p = and_parts (is_argument text) (same_words words (text ∷ [])) e in
-        subst (IsNameOf words) (some_text text name h) (same_eq words (text ∷ []) p.1, p.0)
-    by false e h = absurd cc
-
 name_given : (words : List Text) (member : Option Text) (name : Text) → name_read words member ≡ Some name → IsNameOf words name
 name_given words member name h =
-    option_and_then_some (λ (text : Text). if is_argument text && same_words words (text ∷ []) then Some text else None) member name h
-    (λ text e k. name_tested words text name k)
+    let g = one_given words None member name h in
+    (no_option (name ∷ []) None words g.standing refl, g.plain)
 
 show_given : (words : List Text) (member : Option Text) (command : Command) → option_map (λ (n : Text). Show n) (name_read words member) ≡ Some command
     → Spells (codes "show" ∷ words) command
@@ -191,11 +206,6 @@ sizes_given words option (Some a) None pairings sizes h = absurd cc
 sizes_given words option (Some a) (Some b) None sizes h = absurd cc
 sizes_given words option (Some a) (Some b) (Some c) sizes h = sizes_tested words option a b c sizes h
 
-no_option : (arguments : List Text) (option : Option Text) (words : List Text) → Stands arguments option words → option ≡ None → words ≡ arguments
-no_option arguments option words (alone none same) e = same
-no_option arguments option words (two_words before after n all some same) e = absurd cc
-no_option arguments option words (one_word before after n all some same) e = absurd cc
-
 make_given : (words : List Text) (number members pairings : Option Text) (command : Command) → make_read words number members pairings ≡ Some command
     → Spells (codes "make" ∷ words) command
 make_given words number members pairings command h =
@@ -213,12 +223,22 @@ trial_given words option number members pairings command h =
     let g = sizes_given words option number members pairings sizes e in
     subst (Spells (codes "trial" ∷ words)) m.2 (trial words g.a g.b g.c option sizes m.0 g.standing g.written m.1))
 
+whatif_given : (words : List Text) (option member : Option Text) (command : Command) → whatif_read words option member ≡ Some command
+    → Spells (codes "whatif" ∷ words) command
+whatif_given words option member command h =
+    option_and_then_some (λ (name : Text). option_map (λ (n : ℕ). WhatIf name n) (nodes_in option)) (one_read words option member) command h
+    (λ name e k.
+    let m = mapped (λ (n : ℕ). WhatIf name n) (nodes_in option) command k in
+    let g = one_given words option member name e in
+    subst (Spells (codes "whatif" ∷ words)) m.2 (whatif words name option m.0 g.standing g.plain m.1))
+
 pub given_spelt : (word : Text) (rest : List Text) (t : Texts) (command : Command) → named_read word rest t ≡ Some command → Spells (word ∷ rest) command
 given_spelt word rest t command h =
     by_word word rest command (alone_in Check rest) (award_read rest t.nodes) (option_map (λ (n : Text). Show n) (name_read rest t.member))
     (make_read rest t.number t.members t.pairings) (trial_read rest t.nodes t.number t.members t.pairings)
     (alone_in Migrate rest) (alone_in Trade rest) (option_map (λ (n : Text). Calendar n) (name_read rest t.member))
+    (whatif_read rest t.nodes t.member)
     (alone_spelt (codes "check") Check check rest command) (award_given rest t.nodes command) (show_given rest t.member command)
     (make_given rest t.number t.members t.pairings command) (trial_given rest t.nodes t.number t.members t.pairings command)
     (alone_spelt (codes "migrate") Migrate migrate rest command) (alone_spelt (codes "trade") Trade trade rest command)
-    (calendar_given rest t.member command) h
+    (calendar_given rest t.member command) (whatif_given rest t.nodes t.member command) h

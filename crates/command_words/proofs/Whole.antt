@@ -18,16 +18,16 @@ use Rattle.command_words.specs.Numbers.{within, number_in, long_in, nodes_in, si
 use Rattle.command_words.specs.Words.{is_argument, command_in, HasLimits}
 use Rattle.command_words.specs.Spelling.{Stands, Spells, IsSpelt}
 use Rattle.command_words.specs.Spelling.Stands.{alone, two_words, one_word}
-use Rattle.command_words.specs.Spelling.Spells.{check, award, show, make, trial, migrate, trade, calendar}
+use Rattle.command_words.specs.Spelling.Spells.{check, award, show, make, trial, migrate, trade, calendar, whatif}
 use Rattle.command_words.specs.Reading.{Texts, commands, texts_of, texts_in, named_read, sizes_read}
 use Rattle.command_words.proofs.Laws.{spelt_read, read_spelt, mapped, number_argument, sizes_plain}
 use Rattle.command_words.proofs.Standing.{given_spelt, stands_is, bytes_same}
 use Rattle.command_words.proofs.Steps.{now_of}
 use Rattle.command_words.proofs.Forms as forms
-use Rattle.command_words.proofs.Forms.{Reads, IsPlain, no_texts, sized}
+use Rattle.command_words.proofs.Forms.{Reads, ReadsOne, IsPlain, no_texts, sized, asking}
 use Rattle.command_words.specs.declared.command.Sizes.{Sizes}
 use Rattle.command_words.specs.declared.command.Command.{Command}
-use Rattle.command_words.specs.declared.command.Command.TheVariants.{Award, Make, Trial}
+use Rattle.command_words.specs.declared.command.Command.TheVariants.{Award, Make, Trial, WhatIf}
 
 no_dash : (b : ℕ) → not (b == 45) ≡ true → (b == 45) ≡ false
 no_dash b h = grind (arith, nat_tests)
@@ -57,6 +57,11 @@ award_reads option rest nodes (one_word [] [] n all some same) h =
     (subst (λ (r : List Text). Reads (codes "award" ∷ r) (record no_texts { nodes = Some n })) (sym same) (forms.award_one n))
 award_reads option rest nodes (one_word [] (w ∷ ws) n all some same) h = absurd cc
 award_reads option rest nodes (one_word (w ∷ ws) after n all some same) h = absurd cc
+
+-- one word in two parts
+data Halved (a : Text) : List Text → List Text → Type 0 where
+  at_front : Halved a [] (a ∷ [])
+  at_back : Halved a (a ∷ []) []
 
 -- three words in two parts
 data Parted (a b c : Text) : List Text → List Text → Type 0 where
@@ -100,6 +105,41 @@ parted a b c (x ∷ (y ∷ (z ∷ (w ∷ ws)))) after h =
   where
     no_more : (w : Text) (ws : List Text) → [] ≡ w ∷ ws → ⊥
     no_more w ws h = cc
+
+halved : (a : Text) (front after : List Text) → (a ∷ []) ≡ front ++ after → Halved a front after
+halved a [] after h = subst (Halved a []) h at_front
+halved a (x ∷ []) after h =
+    let e = head_same a x [] after h in
+    let t = tail_same a x [] after h in
+    subst (λ (y : Text). Halved a (y ∷ []) after) e (subst (Halved a (a ∷ [])) t at_back)
+halved a (x ∷ (y ∷ ws)) after h = absurd (no_more y (ws ++ after) (tail_same a x [] (y ∷ (ws ++ after)) h))
+  where
+    no_more : (w : Text) (ws : List Text) → [] ≡ w ∷ ws → ⊥
+    no_more w ws h = cc
+
+two_halved : (word : Text) (texts : Text → Option Text → Texts) → ReadsOne word texts → (a n : Text) (front after : List Text) → IsPlain a → IsPlain n
+    → Halved a front after → Reads (word ∷ (front ++ (codes "--nodes" ∷ n ∷ after))) (texts a (Some n))
+two_halved word texts forms a n _ _ p s at_front = forms.two_first a n p s
+two_halved word texts forms a n _ _ p s at_back = forms.two_last a n p s
+
+one_halved : (word : Text) (texts : Text → Option Text → Texts) → ReadsOne word texts → (a n : Text) (front after : List Text) → IsPlain a
+    → Halved a front after → Reads (word ∷ (front ++ ((codes "--nodes=" ++ n) ∷ after))) (texts a (Some n))
+one_halved word texts forms a n _ _ p at_front = forms.one_first a n p
+one_halved word texts forms a n _ _ p at_back = forms.one_last a n p
+
+one_reads : (word : Text) (texts : Text → Option Text → Texts) → ReadsOne word texts → (a : Text) (option : Option Text) (rest : List Text) (nodes : ℕ)
+    → IsPlain a → Stands (a ∷ []) option rest → nodes_in option ≡ Some nodes → Reads (word ∷ rest) (texts a option)
+one_reads word texts forms a option rest nodes p (alone none same) h =
+    subst (λ (o : Option Text). Reads (word ∷ rest) (texts a o)) (sym none)
+    (subst (λ (l : List Text). Reads (word ∷ l) (texts a None)) (sym same) (forms.alone a p))
+one_reads word texts forms a option rest nodes p (two_words front after n all some same) h =
+    subst (λ (o : Option Text). Reads (word ∷ rest) (texts a o)) (sym some)
+    (subst (λ (l : List Text). Reads (word ∷ l) (texts a (Some n))) (sym same)
+    (two_halved word texts forms a n front after p (plain_nodes n nodes (ap nodes_in (sym some) ∙ h)) (halved a front after all)))
+one_reads word texts forms a option rest nodes p (one_word front after n all some same) h =
+    subst (λ (o : Option Text). Reads (word ∷ rest) (texts a o)) (sym some)
+    (subst (λ (l : List Text). Reads (word ∷ l) (texts a (Some n))) (sym same)
+    (one_halved word texts forms a n front after p (halved a front after all)))
 
 two_parted : (a b c n : Text) (before after : List Text) → IsPlain a → IsPlain b → IsPlain c → IsPlain n → Parted a b c before after
     → Reads (codes "trial" ∷ (before ++ (codes "--nodes" ∷ n ∷ after))) (sized a b c (Some n))
@@ -173,6 +213,11 @@ understood _ _ (calendar name plain) = record {
   texts = record no_texts { member = Some name };
   reads = forms.calendar_form name (plain_word name plain);
   means = rw (plain, bytes_same name) refl;
+}
+understood _ _ (whatif rest name option nodes s plain h) = record {
+  texts = asking name option;
+  reads = one_reads (codes "whatif") asking forms.whatif_forms name option rest nodes (plain_word name plain) s h;
+  means = rw (plain, stands_is (name ∷ []) option rest s) (ap (option_map (λ (n : ℕ). WhatIf name n)) h);
 }
 
 -- ---- the three ends of the reader
@@ -296,6 +341,7 @@ limits_of _ _ (trial rest a b c option sizes nodes s h k) = (sizes_limits a b c 
 limits_of _ _ migrate = tt
 limits_of _ _ trade = tt
 limits_of _ _ (calendar name plain) = tt
+limits_of _ _ (whatif rest name option nodes s plain h) = nodes_limits option nodes h
 
 pub read_has_limits : (words : List Text) (read : Option Command) → read ≡ command_in words → IfSome read HasLimits
 read_has_limits words None e = tt

@@ -6,7 +6,7 @@ use Rattle.command_words.specs.Numbers.{nodes_in, sizes_in}
 use Rattle.command_words.specs.Words.{is_argument, alone_in}
 use Rattle.command_words.specs.declared.command.Sizes.{Sizes}
 use Rattle.command_words.specs.declared.command.Command.{Command}
-use Rattle.command_words.specs.declared.command.Command.TheVariants.{Check, Award, Show, Make, Trial, Migrate, Trade, Calendar}
+use Rattle.command_words.specs.declared.command.Command.TheVariants.{Check, Award, Show, Make, Trial, Migrate, Trade, Calendar, WhatIf}
 
 -- ---- what clap is told
 
@@ -16,11 +16,15 @@ nodes_rule = record (new_rule (codes "nodes")) { long = Some (codes "nodes") }
 abbrev pub needed_rule : Text → Rule
 needed_rule id = record (new_rule id) { required = true }
 
+abbrev pub one_app : Text → Text → App
+one_app name id = with_rule (new_app name) (needed_rule id)
+
 abbrev pub sized_app : Text → App
 sized_app name = with_rule (with_rule (with_rule (new_app name) (needed_rule (codes "number")))
     (needed_rule (codes "members"))) (needed_rule (codes "pairings"))
 
--- the commands for a month that is there, these and those for a made one, and all of them
+-- the commands for a month that is there, these and those for a made one, these and those for an award that stands, and
+-- all of them
 abbrev pub month_commands : App
 month_commands = with_subcommand (with_subcommand (with_subcommand (new_app (codes "pbs"))
     (new_app (codes "check")).top)
@@ -31,11 +35,14 @@ abbrev pub made_commands : App
 made_commands = with_subcommand (with_subcommand month_commands (sized_app (codes "make")).top)
     (with_rule (sized_app (codes "trial")) nodes_rule).top
 
-abbrev pub commands : App
-commands = with_subcommand (with_subcommand (with_subcommand made_commands
+abbrev pub desk_commands : App
+desk_commands = with_subcommand (with_subcommand (with_subcommand made_commands
     (new_app (codes "migrate")).top)
     (new_app (codes "trade")).top)
     (with_rule (new_app (codes "calendar")) (needed_rule (codes "member"))).top
+
+abbrev pub commands : App
+commands = with_subcommand desk_commands (with_rule (one_app (codes "whatif") (codes "member")) nodes_rule).top
 
 -- ---- the test of words against what was read
 
@@ -77,9 +84,13 @@ abbrev pub award_read : List Text → Option Text → Option Command
 award_read words option =
     if stands words [] option then option_map (λ n. Award n) (nodes_in option) else None
 
+-- the one argument, with an option among the words where there is one
+abbrev pub one_read : List Text → Option Text → Option Text → Option Text
+one_read words option argument = option_and_then (λ word.
+    if is_argument word && stands words (word ∷ []) option then Some word else None) argument
+
 abbrev pub name_read : List Text → Option Text → Option Text
-name_read words member = option_and_then (λ name.
-    if is_argument name && stands words (name ∷ []) None then Some name else None) member
+name_read words member = one_read words None member
 
 abbrev pub sizes_read : List Text → Option Text → Option Text → Option Text → Option Text → Option Sizes
 sizes_read words option number members pairings = option_and_then (λ a. option_and_then (λ b. option_and_then (λ c.
@@ -92,6 +103,10 @@ make_read words number members pairings =
 abbrev pub trial_read : List Text → Option Text → Option Text → Option Text → Option Text → Option Command
 trial_read words option number members pairings = option_and_then (λ sizes. option_map (λ n. Trial sizes n)
     (nodes_in option)) (sizes_read words option number members pairings)
+
+abbrev pub whatif_read : List Text → Option Text → Option Text → Option Command
+whatif_read words option member = option_and_then (λ name. option_map (λ n. WhatIf name n) (nodes_in option))
+    (one_read words option member)
 
 -- what clap found of each argument
 pub record Texts : Type 0 where
@@ -120,7 +135,8 @@ named_read word rest t =
     else (if bytes_eq word (codes "migrate") then alone_in Migrate rest
     else (if bytes_eq word (codes "trade") then alone_in Trade rest
     else (if bytes_eq word (codes "calendar") then option_map (λ n. Calendar n) (name_read rest t.member)
-    else None)))))))
+    else (if bytes_eq word (codes "whatif") then whatif_read rest t.nodes t.member
+    else None))))))))
 
 -- the texts that clap reads of the words behind the program's name, where it goes to a command
 abbrev pub texts_of : List Text → Option Texts

@@ -4,7 +4,7 @@ use Rattle.command_words.specs.Numbers.{nodes_in, sizes_in}
 use Rattle.command_words.specs.Words.{is_argument}
 use Rattle.command_words.specs.declared.command.Sizes.{Sizes}
 use Rattle.command_words.specs.declared.command.Command.{Command}
-use Rattle.command_words.specs.declared.command.Command.TheVariants.{Check, Award, Show, Make, Trial, Migrate, Trade, Calendar}
+use Rattle.command_words.specs.declared.command.Command.TheVariants.{Check, Award, Show, Make, Trial, Migrate, Trade, Calendar, WhatIf}
 
 -- the words are these arguments in order, with at most one option before, between or after them
 pub data Stands (arguments : List (List ℕ)) (nodes : Option (List ℕ)) (words : List (List ℕ)) : Type 0 where
@@ -29,6 +29,8 @@ pub data Spells : List (List ℕ) → Command → Type 0 where
   migrate : Spells (codes "migrate" ∷ []) Migrate
   trade : Spells (codes "trade" ∷ []) Trade
   calendar : (name : List ℕ) → is_argument name ≡ true → Spells (codes "calendar" ∷ name ∷ []) (Calendar name)
+  whatif : (rest : List (List ℕ)) (name : List ℕ) (option : Option (List ℕ)) (nodes : ℕ) → Stands (name ∷ []) option rest
+      → is_argument name ≡ true → nodes_in option ≡ Some nodes → Spells (codes "whatif" ∷ rest) (WhatIf name nodes)
 
 -- what is read is a command exactly where the words spell it
 abbrev pub IsSpelt : List (List ℕ) → Option Command → Type 0

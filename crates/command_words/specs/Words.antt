@@ -6,7 +6,7 @@ use Rattle.std.specs.Str.{bytes_eq}
 use Rattle.command_words.specs.Numbers.{nodes_in, sizes_in, AreNodes, AreSizes}
 use Rattle.command_words.specs.declared.command.Sizes.{Sizes}
 use Rattle.command_words.specs.declared.command.Command.{Command}
-use Rattle.command_words.specs.declared.command.Command.TheVariants.{Check, Award, Show, Make, Trial, Migrate, Trade, Calendar}
+use Rattle.command_words.specs.declared.command.Command.TheVariants.{Check, Award, Show, Make, Trial, Migrate, Trade, Calendar, WhatIf}
 
 -- a word that may stand for a name: it is not empty, and no dash begins it
 abbrev pub is_argument : List ℕ → Bool
@@ -71,6 +71,10 @@ abbrev pub trial_in : List (List ℕ) → Option (List ℕ) → Option Command
 trial_in arguments nodes =
     option_and_then (λ sizes. option_map (λ n. Trial sizes n) (nodes_in nodes)) (sizes_of arguments)
 
+abbrev pub whatif_in : List (List ℕ) → Option (List ℕ) → Option Command
+whatif_in arguments nodes =
+    option_and_then (λ name. option_map (λ n. WhatIf name n) (nodes_in nodes)) (name_in arguments)
+
 abbrev pub named : List ℕ → List (List ℕ) → Option Command
 named word rest =
     if bytes_eq word (codes "check") then alone_in Check rest
@@ -81,7 +85,8 @@ named word rest =
     else (if bytes_eq word (codes "migrate") then alone_in Migrate rest
     else (if bytes_eq word (codes "trade") then alone_in Trade rest
     else (if bytes_eq word (codes "calendar") then calendar_in rest
-    else None)))))))
+    else (if bytes_eq word (codes "whatif") then whatif_in (option_out rest).arguments (option_out rest).nodes
+    else None))))))))
 
 -- the command that these words are, if they are one
 abbrev pub command_in : List (List ℕ) → Option Command
@@ -98,3 +103,4 @@ HasLimits (Trial sizes nodes) = AreSizes sizes × AreNodes nodes
 HasLimits Migrate = Unit {0}
 HasLimits Trade = Unit {0}
 HasLimits (Calendar name) = Unit {0}
+HasLimits (WhatIf name nodes) = AreNodes nodes

@@ -4,7 +4,7 @@ ghost use Rattle.command_words.specs.Numbers.{nodes_in, sizes_in};
 ghost use Rattle.command_words.specs.declared.command.Command.TheVariants.{Show, Calendar};
 ghost use Rattle.command_words.specs.Words.{alone_in, command_in, HasLimits};
 ghost use Rattle.command_words.specs.Spelling.{IsSpelt};
-ghost use Rattle.command_words.specs.Reading.{award_read, name_read, sizes_read, make_read, trial_read, named_read};
+ghost use Rattle.command_words.specs.Reading.{award_read, one_read, name_read, sizes_read, make_read, trial_read, whatif_read, named_read};
 ghost use Rattle.command_words.specs.Found.{texts_found, words_of, option_word};
 
 use crate::grammar::parse;
@@ -47,6 +47,9 @@ pub enum Command {
     Trade,
     /// Write the calendar of the member with this name, in bytes.
     Calendar(List<u8>),
+    /// Award the month once more with the other bids of the member with this name, in bytes, and with so many nodes at
+    /// most.
+    WhatIf(List<u8>, u32),
 }
 
 /// The number of nodes that an option allows.
@@ -96,19 +99,28 @@ fn award(words: &[&str], found: &ArgMatches<'_>) -> Option<Command>
     Some(Command::Award(nodes))
 }
 
+/// The argument that was read, where it is the one that the words have, with this option among them where there is
+/// one.
+fn one<'w>(words: &[&str], argument: Option<&'w str>, option: Option<&str>) -> Option<&'w str>
+    ensures value { option_map (λ n. n.now) result
+        ≡ one_read (words_of words.now) (option_word option.entry) (option_word argument.entry) }
+{
+    let word = argument?;
+    if !is_argument(word) {
+        return None;
+    }
+    if !stands(words, &[word], option) {
+        return None;
+    }
+    Some(word)
+}
+
 /// The name that these words are.
 fn name<'w>(words: &[&str], found: &ArgMatches<'w>) -> Option<&'w str>
     ensures value { option_map (λ n. n.now) result
         ≡ name_read (words_of words.now) (texts_found found.now).member }
 {
-    let name = found.get_str("member")?;
-    if !is_argument(name) {
-        return None;
-    }
-    if !stands(words, &[name], None) {
-        return None;
-    }
-    Some(name)
+    one(words, found.get_str("member"), None)
 }
 
 /// The sizes that were read, where the words are their arguments, with this option among them
@@ -185,6 +197,22 @@ fn calendar(
     Ok(Some(Command::Calendar(bytes)))
 }
 
+/// The command `whatif` with these words behind it.
+fn whatif(alloc: Global, words: &[&str], found: &ArgMatches<'_>) -> Result<Option<Command>, Memory>
+    ensures value { IfOk result (λ read. read
+        ≡ whatif_read (words_of words.now) (texts_found found.now).nodes (texts_found found.now).member) }
+{
+    let option = found.get_str("nodes");
+    let Some(name) = one(words, found.get_str("member"), option) else {
+        return Ok(None);
+    };
+    let Some(nodes) = nodes_allowed(option) else {
+        return Ok(None);
+    };
+    let bytes = bytes_of(alloc, name)?;
+    Ok(Some(Command::WhatIf(bytes, nodes)))
+}
+
 /// The command of a first word with what was read behind it.
 fn named(
     alloc: Global,
@@ -218,6 +246,9 @@ fn named(
     }
     if word == "calendar" {
         return calendar(alloc, words, found);
+    }
+    if word == "whatif" {
+        return whatif(alloc, words, found);
     }
     Ok(None)
 }

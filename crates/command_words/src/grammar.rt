@@ -2,7 +2,7 @@
 ghost use Rattle.std.specs.Prelude.{◌≡◌, true, false, None, IfOk, IfSome, IsOkAnd, codes};
 ghost use Rattle.clap.specs.Words.{AddsSubcommand, app_of, new_app, rule_of, subcommand_rows_of, subcommand_of, takes, with_rule};
 ghost use Rattle.command_words.specs.Found.{words_of};
-ghost use Rattle.command_words.specs.Reading.{nodes_rule, needed_rule, sized_app, month_commands, made_commands, commands};
+ghost use Rattle.command_words.specs.Reading.{nodes_rule, needed_rule, one_app, sized_app, month_commands, made_commands, desk_commands, commands};
 
 use clap::error::ErrorKind;
 use clap::{Arg, ArgMatches, Command as Grammar};
@@ -32,6 +32,15 @@ fn with_one<'w>(alloc: Global, name: &'w str, argument: Arg<'w>) -> Result<Gramm
         ≡ with_rule (new_app name.entry.now) (rule_of argument.entry)) }
 {
     Grammar::new(alloc, name).arg(argument)
+}
+
+/// A command with one argument and the option.
+fn with_nodes<'w>(alloc: Global, name: &'w str, id: &'w str) -> Result<Grammar<'w>, AllocError>
+    ensures shape { IfOk result (λ c. app_of c
+        ≡ with_rule (one_app name.entry.now id.entry.now) nodes_rule) }
+{
+    let one = with_one(alloc, name, needed(alloc, id))?;
+    one.arg(nodes(alloc))
 }
 
 /// A command with the sizes of a month.
@@ -83,14 +92,22 @@ fn with_made<'w>(alloc: Global) -> Result<Grammar<'w>, AllocError>
     and_command(made, trial(alloc))
 }
 
-/// The commands of the program.
-fn grammar<'w>(alloc: Global) -> Result<Grammar<'w>, AllocError>
-    ensures shape { IfOk result (λ c. app_of c ≡ commands) }
+/// The program with these and with the commands for an award that stands.
+fn with_desk<'w>(alloc: Global) -> Result<Grammar<'w>, AllocError>
+    ensures shape { IfOk result (λ c. app_of c ≡ desk_commands) }
 {
     let made = with_made(alloc)?;
     let first = made.subcommand(Grammar::new(alloc, "migrate"))?;
     let second = first.subcommand(Grammar::new(alloc, "trade"))?;
     and_command(second, with_one(alloc, "calendar", needed(alloc, "member")))
+}
+
+/// The commands of the program.
+fn grammar<'w>(alloc: Global) -> Result<Grammar<'w>, AllocError>
+    ensures shape { IfOk result (λ c. app_of c ≡ commands) }
+{
+    let desk = with_desk(alloc)?;
+    and_command(desk, with_nodes(alloc, "whatif", "member"))
 }
 
 /// What `clap` reads from the words, of which the first is the program's name, or nothing where it

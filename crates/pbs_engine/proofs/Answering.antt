@@ -18,6 +18,8 @@ use Rattle.desk_commands.specs.declared.migrate_stop.MigrateStop.{MigrateStop}
 use Rattle.desk_commands.specs.declared.trade_stop.Traded.{Traded}
 use Rattle.desk_commands.specs.declared.trade_stop.TradeStop.{TradeStop}
 use Rattle.month_files.specs.Handing.{FromReads}
+use Rattle.plan_commands.specs.declared.asking_stop.WhatIf.{WhatIf}
+use Rattle.plan_commands.specs.declared.asking_stop.WhatIfStop.{WhatIfStop}
 use Rattle.month_files.specs.declared.file.File.{File}
 use Rattle.answer_texts.specs.declared.status.Status.{Status}
 use Rattle.answer_texts.specs.declared.status.Status.TheVariants as status
@@ -38,6 +40,7 @@ of_migrate (outcome.Trial sizes nodes end) asked = absurd cc
 of_migrate (outcome.Migrate end) asked = (end, refl)
 of_migrate (outcome.Trade end) asked = absurd cc
 of_migrate (outcome.Calendar name end) asked = absurd cc
+of_migrate (outcome.WhatIf name nodes end) asked = absurd cc
 
 pub of_trade : (o : Outcome) → asked_by o ≡ Some command.Trade → (end : Result Traded TradeStop) × (o ≡ outcome.Trade end)
 of_trade outcome.Usage asked = absurd cc
@@ -49,6 +52,7 @@ of_trade (outcome.Trial sizes nodes end) asked = absurd cc
 of_trade (outcome.Migrate end) asked = absurd cc
 of_trade (outcome.Trade end) asked = (end, refl)
 of_trade (outcome.Calendar name end) asked = absurd cc
+of_trade (outcome.WhatIf name nodes end) asked = absurd cc
 
 pub of_calendar : (o : Outcome) (name : List ℕ) → asked_by o ≡ Some (command.Calendar name) → (end : Result MemberCalendar CalendarStop) × (o ≡ outcome.Calendar name end)
 of_calendar outcome.Usage name asked = absurd cc
@@ -60,6 +64,23 @@ of_calendar (outcome.Trial sizes nodes end) name asked = absurd cc
 of_calendar (outcome.Migrate end) name asked = absurd cc
 of_calendar (outcome.Trade end) name asked = absurd cc
 of_calendar (outcome.Calendar n end) name asked = let same : n ≡ name = cc in (end, ap (λ (k : List ℕ). outcome.Calendar k end) same)
+of_calendar (outcome.WhatIf n nodes end) name asked = absurd cc
+
+pub of_whatif : (o : Outcome) (name : List ℕ) (nodes : ℕ) → asked_by o ≡ Some (command.WhatIf name nodes)
+    → (end : Result WhatIf WhatIfStop) × (o ≡ outcome.WhatIf name nodes end)
+of_whatif outcome.Usage name nodes asked = absurd cc
+of_whatif (outcome.Check end) name nodes asked = absurd cc
+of_whatif (outcome.Award n end) name nodes asked = absurd cc
+of_whatif (outcome.Show n end) name nodes asked = absurd cc
+of_whatif (outcome.Make sizes end) name nodes asked = absurd cc
+of_whatif (outcome.Trial sizes n end) name nodes asked = absurd cc
+of_whatif (outcome.Migrate end) name nodes asked = absurd cc
+of_whatif (outcome.Trade end) name nodes asked = absurd cc
+of_whatif (outcome.Calendar n end) name nodes asked = absurd cc
+of_whatif (outcome.WhatIf n k end) name nodes asked =
+    let same : n ≡ name = cc in
+    let so_many : k ≡ nodes = cc in
+    (end, ap (λ (x : List ℕ). outcome.WhatIf x k end) same ∙ ap (λ (x : ℕ). outcome.WhatIf name x end) so_many)
 
 -- ---- what is said of an outcome
 

@@ -1,0 +1,6 @@
+use Rattle.std.proofs.Common.{sym, subst, arith, ℕ, ◌≤◌, length}
+use Rattle.cert_text.proofs.ShortLists.{certificate_short}
+use Rattle.plan_commands.proofs.opening.certificate_draft.Goals as goal
+
+pub print_certificate-requires : goal.print_certificate-requires
+print_certificate-requires c = record { short = certificate_short c.args.certificate.now c.requires.writable.limits }
