@@ -53,7 +53,13 @@ static NO_COMMANDS: [&[&str]; 30] = [
     &["make", "7", "201", "24"],
 ];
 
-static NO_DESKS: [&[&str]; 9] = [
+static NO_DESKS: [&[&str]; 15] = [
+    &["whatif"],
+    &["whatif", ""],
+    &["whatif", "-x"],
+    &["whatif", "M1", "M2"],
+    &["whatif", "M1", "--nodes", "0"],
+    &["whatif", "--nodes=5", "M1", "--nodes=5"],
     &["migrate", "certificate.txt"],
     &["migrate", "--nodes", "5"],
     &["migrate", "--"],
@@ -125,6 +131,27 @@ fn writes_versions_trades_and_calendars(rt: HostRuntime) {
         rt.alloc(),
         &["calendar", "M1"],
         Command::Calendar(List::from_vec(name)),
+    );
+}
+
+#[test]
+fn asks_what_if(rt: HostRuntime) {
+    let texts: [&[&str]; 3] = [
+        &["whatif", "M1", "--nodes", "5"],
+        &["whatif", "--nodes=5", "M1"],
+        &["whatif", "--nodes", "5", "M1"],
+    ];
+    for words in texts {
+        let name = b"M1".to_vec(rt.alloc()).expect(&rt, "memory");
+        let asked = Command::WhatIf(List::from_vec(name), 5);
+        assert_read(&rt, rt.alloc(), words, asked);
+    }
+    let name = b"M1".to_vec(rt.alloc()).expect(&rt, "memory");
+    assert_read(
+        &rt,
+        rt.alloc(),
+        &["whatif", "M1"],
+        Command::WhatIf(List::from_vec(name), 20000),
     );
 }
 

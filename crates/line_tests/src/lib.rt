@@ -10,6 +10,8 @@ mod june;
 #[cfg(test)]
 mod lines;
 #[cfg(test)]
+mod openings;
+#[cfg(test)]
 mod pools;
 #[cfg(test)]
 mod whole_lines;

@@ -9,11 +9,11 @@ ghost use Rattle.roster_model.specs.Valid.{IsBid};
 ghost use Rattle.roster_model.specs.Weights.{AreSmallWeights};
 
 use crate::june::{month, one, pairings_of, single, with};
-use duty_calendar::{List, Memory, Pairing};
+use duty_calendar::{List, Memory, Pairing, Weekday};
 use label_lattice::Steps;
 use line_generator::{BestFault, Over, PricedLine, are_small, best, heaviest_over};
 use line_lens::{LensFault, check_lens};
-use roster_model::{Bid, BidRef, Goal, Lens, Node, Problem, Wish};
+use roster_model::{Atom, Bid, BidRef, Goal, Lens, Node, Problem, Test, Wish};
 use std::alloc::Global;
 use std::marker::Brand;
 use std::sync::ledger::{Blank, Ledger};
@@ -55,6 +55,24 @@ fn days_off(weight: u32, days: u32) -> Bid
         weight,
         wish: Wish::DaysOff(days),
     }
+}
+
+/// The bid to have so many pairings that are not on a Monday.
+fn late(alloc: Global, weight: u32, least: u32) -> Result<Bid, Memory>
+    requires some { 1 ≤ weight }
+    requires few { weight ≤ 1000 }
+    requires least { 1 ≤ least }
+    requires most { least ≤ 600 }
+    ensures form { IfOk result (λ bid. (h : Month) (n : ℕ) → IsBid h n bid) }
+{
+    let atom = Atom {
+        negated: true,
+        test: Test::OnWeekday(Weekday::Mon),
+    };
+    Ok(Bid {
+        weight,
+        wish: Wish::Prefer(least, one(alloc, atom)?),
+    })
 }
 
 /// The bids with one more.
@@ -196,21 +214,32 @@ fn weight_of(set: u64, weights: &[i64]) -> i64 {
     total
 }
 
-/// Whether a line of so much credit, with so many days off, grants the bid.
-fn is_granted(bid: &Bid, credit: u32, days: u32) -> bool {
+/// How many days off there are beside these pairings, each of one day.
+fn days_beside(set: u64) -> u32 {
+    30_u32.wrapping_sub(set.count_ones())
+}
+
+/// How many of these pairings, the first of which is on a Monday, are on another day.
+fn late_pairings(set: u64) -> u32 {
+    (set & !1).count_ones()
+}
+
+/// Whether the line of these pairings, taken with so much credit, grants the bid.
+fn is_granted(bid: &Bid, credit: u32, set: u64) -> bool {
     match &bid.wish {
         Wish::CreditBelow(most) => credit < *most,
         Wish::CreditAbove(least) => *least < credit,
-        Wish::DaysOff(least) => *least <= days,
-        Wish::Fly(_) | Wish::Avoid(_) | Wish::Prefer(_, _) | Wish::Off(_, _) => false,
+        Wish::DaysOff(least) => *least <= days_beside(set),
+        Wish::Prefer(least, _) => *least <= late_pairings(set),
+        Wish::Fly(_) | Wish::Avoid(_) | Wish::Off(_, _) => false,
     }
 }
 
-/// What a line of so much credit, with so many days off, has of the bids.
-fn score_of(bids: &[Bid], tracked: u64, credit: u32, days: u32) -> u32 {
+/// What the line of these pairings, taken with so much credit, has of the bids.
+fn score_of(bids: &[Bid], tracked: u64, credit: u32, set: u64) -> u32 {
     let mut total: u32 = 0;
     for number in 0..bids.len() {
-        if !has(tracked, number) || is_granted(&bids[number], credit, days) {
+        if !has(tracked, number) || is_granted(&bids[number], credit, set) {
             total = total.wrapping_add(bids[number].weight);
         }
     }
@@ -228,15 +257,14 @@ struct Row {
     grant: Option<u32>,
 }
 
-/// Whether a line of so much credit, with so many days off, has the bid that is asked for, if the
-/// lens tracks it.
-fn has_asked(row: Row, bids: &[Bid], credit: u32, days: u32) -> bool {
+/// Whether the line of these pairings, taken with so much credit, has the bid that is asked for, if the lens tracks it.
+fn has_asked(row: Row, bids: &[Bid], credit: u32, set: u64) -> bool {
     match row.grant {
         Some(number) => {
             !has(row.tracked, number as usize)
                 || bids
                     .get(number as usize)
-                    .is_some_and(|bid| is_granted(bid, credit, days))
+                    .is_some_and(|bid| is_granted(bid, credit, set))
         }
         None => true,
     }
@@ -246,10 +274,9 @@ fn has_asked(row: Row, bids: &[Bid], credit: u32, days: u32) -> bool {
 fn passes(row: Row, bids: &[Bid], credits: &[u32], set: u64) -> bool {
     let down = credit_of(set, credits, row.grain, 0);
     let up = credit_of(set, credits, row.grain, row.grain.wrapping_sub(1));
-    let days = 30_u32.wrapping_sub(set.count_ones());
     for credit in down.max(row.low)..up.min(row.high).wrapping_add(1) {
-        let score = score_of(bids, row.tracked, credit, days);
-        if score >= row.floor && has_asked(row, bids, credit, days) {
+        let score = score_of(bids, row.tracked, credit, set);
+        if score >= row.floor && has_asked(row, bids, credit, set) {
             return true;
         }
     }
@@ -287,15 +314,16 @@ const WEIGHTS: [[i64; 5]; 4] = [
     [0, 0, 0, 0, 0],
 ];
 
-/// Less than 700 minutes, more than 500, more than 800, and 28 days off.
-fn four_bids(alloc: Global) -> Result<List<Bid>, Memory>
-    ensures count { IfOk result (λ list. length list ≡ 4) }
+/// Less than 700 minutes, more than 500, more than 800, 28 days off, and two pairings that are not on a Monday.
+fn five_bids(alloc: Global) -> Result<List<Bid>, Memory>
+    ensures count { IfOk result (λ list. length list ≡ 5) }
     ensures form { IfOk result (λ list. (h : Month) (n : ℕ) → All (IsBid h n) list) }
 {
     let first = more(List::new(alloc), below(10, 700))?;
     let second = more(first, above(20, 500))?;
     let third = more(second, above(40, 800))?;
-    more(third, days_off(80, 28))
+    let fourth = more(third, days_off(80, 28))?;
+    more(fourth, late(alloc, 160, 2)?)
 }
 
 /// Whether the lens of the row has the lines that it is to have, at all weights.
@@ -306,11 +334,11 @@ fn is_right(alloc: Global, row: Row) -> Result<bool, BestFault>
     let problem = month_of(
         alloc,
         pairings_of(alloc, &CREDITS)?,
-        four_bids(alloc)?,
+        five_bids(alloc)?,
         row.low,
         row.high,
     )?;
-    let bids = four_bids(alloc)?;
+    let bids = five_bids(alloc)?;
     let lens = whole_lens(alloc, row.grain, row.tracked);
     for weights in &WEIGHTS {
         let most = most_of_all(row, bids.as_slice(), &CREDITS, weights);
@@ -329,7 +357,7 @@ fn is_right_from(
     tracked: u64,
     grant: Option<u32>,
 ) -> Result<bool, BestFault> {
-    for floor in [0_u32, 10, 50, 70, 100, 130, 150] {
+    for floor in [0_u32, 10, 70, 130, 150, 170, 210, 310] {
         let row = Row {
             grain,
             tracked,
@@ -348,8 +376,8 @@ fn is_right_from(
 #[test]
 fn whole_lenses_pass_what_they_say(rt: HostRuntime) -> Result<(), BestFault> {
     let alloc = rt.alloc();
-    for tracked in [15_u64, 3, 8, 0] {
-        for grant in [None, Some(0_u32), Some(2), Some(3)] {
+    for tracked in [31_u64, 15, 19, 16, 0] {
+        for grant in [None, Some(0_u32), Some(2), Some(3), Some(4)] {
             assert!(rt; is_right_from(alloc, 60, tracked, grant)?);
             assert!(rt; is_right_from(alloc, 15, tracked, grant)?);
             assert!(rt; is_right_from(alloc, 1, tracked, grant)?);

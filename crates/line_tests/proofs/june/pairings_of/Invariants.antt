@@ -8,5 +8,5 @@ use Rattle.line_tests.proofs.june.pairings_of.Given as goal
 abbrev pub invariant-loop-number : goal.invariant-loop-number
 invariant-loop-number l = record {
   count : length l.list ≡ l.number;
-  form : (h : Horizon) → 30 ≤ month_days h → ArePairings h l.list
+  form : (h : Horizon) → 30 ≤ month_days h → ArePairings h l.list;
 }

@@ -7,5 +7,5 @@ use Rattle.line_tests.proofs.whole_lines.credit_bids.Given as goal
 abbrev pub invariant-loop-number : goal.invariant-loop-number
 invariant-loop-number l = record {
   count : length l.list ≡ l.number;
-  form : (h : Horizon) (n : ℕ) → All (IsBid h n) l.list
+  form : (h : Horizon) (n : ℕ) → All (IsBid h n) l.list;
 }
