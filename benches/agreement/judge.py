@@ -1,6 +1,6 @@
 """The judge of certificates, by the rules of docs/FORMATS.md. Members, pairings and bids count from 0 here.
 
-A lens is (grain, tracked, free30, days, windows), a node a tuple of decisions (member, pairing, flies), and an item one
+A lens is (grain, tracked, free30, days, windows, whole), a node a tuple of decisions (member, pairing, flies), and an item one
 of ("split", m, p), ("count", p), ("fixed", m), ("noline", m, lens) and ("weights", weights, lenses). A bid is
 (member, number), a reason (bid, place) with None as the place of a tie, and a shown part (items, roster), either None.
 """
@@ -35,10 +35,14 @@ def keeps(month, member, line, kind, start):
 
 
 def lens_fault(member, lens):
-    grain, tracked, _, _, windows = lens
+    grain, tracked, _, _, windows, whole = lens
+    of_line = 0
     for bid in range(64):
-        if tracked >> bid & 1 and not (bid < len(member.bids) and law.can_be_tracked(member.bids[bid][1])):
+        if not tracked >> bid & 1 or bid < len(member.bids) and law.can_be_tracked(member.bids[bid][1]):
+            continue
+        if not whole or bid >= len(member.bids) or of_line == 8:
             return [1, bid + 1]
+        of_line += 1
     if len(windows) > 16:
         return [2, len(windows)]
     for number, (kind, start) in enumerate(windows):
@@ -47,12 +51,39 @@ def lens_fault(member, lens):
     return None if grain in (60, 30, 15, 5, 1) else [4]
 
 
-def lens_score(month, member, tracked, line):
+def is_granted_at(month, member, wish, line, credit):
+    """Whether the line grants the wish where its total credit is taken as this."""
+    word, *values = wish
+    if word == "credit below":
+        return credit < values[0]
+    if word == "credit above":
+        return credit > values[0]
+    return law.is_granted(month, member, wish, line)
+
+
+def lens_score(month, member, tracked, line, credit):
     return sum(
         weight
         for bid, (weight, wish) in enumerate(member.bids)
-        if not tracked >> bid & 1 or law.is_granted(month, member, wish, line)
+        if not tracked >> bid & 1 or is_granted_at(month, member, wish, line, credit)
     )
+
+
+def credits(member, down, up):
+    """Of the credits that the lens may take, some of each kind that the bids tell apart."""
+    least, most = max(member.low, down), min(member.high, up)
+    edges = [wish[1] + step for _, wish in member.bids if wish[0].startswith("credit") for step in (-1, 0, 1)]
+    return {credit for credit in [least, most, *edges] if least <= credit <= most}
+
+
+def reaches(month, m, goal, tracked, line, credit):
+    """Whether the line reaches the goal by what is tracked, where its total credit is taken as this."""
+    member, (floors, grant) = month.members[m], goal
+    if m < len(floors) and floors[m] > lens_score(month, member, tracked, line, credit):
+        return False
+    if grant is None or grant[0] != m or not tracked >> grant[1] & 1:
+        return True
+    return is_granted_at(month, member, member.bids[grant[1]][1], line, credit)
 
 
 def grants(month, bid, line):
@@ -62,8 +93,8 @@ def grants(month, bid, line):
 
 
 def passes(month, m, goal, node, lens, line):
-    member, (floors, grant) = month.members[m], goal
-    grain, tracked, free30, days, windows = lens
+    member = month.members[m]
+    grain, tracked, free30, days, windows, _ = lens
     fixed = sum(e.credit for e in member.fixed)
     down = fixed + sum(month.pairings[p].credit // grain * grain for p in line)
     up = fixed + sum(-(-month.pairings[p].credit // grain) * grain for p in line)
@@ -71,10 +102,7 @@ def passes(month, m, goal, node, lens, line):
         all((p in line) == flies for of, p, flies in node if of == m)
         and law.overlap(month, member, line) is None
         and law.short_rest(month, member, line) is None
-        and down <= member.high
-        and member.low <= up
-        and (m >= len(floors) or floors[m] <= lens_score(month, member, tracked, line))
-        and (grant is None or grant[0] != m or not tracked >> grant[1] & 1 or grants(month, grant, line))
+        and any(reaches(month, m, goal, tracked, line, credit) for credit in credits(member, down, up))
         and not (free30 and law.no_free_block(month, member, line) is not None)
         and not (days and law.days_off(month, member, line) < month.days_off)
         and all(keeps(month, member, line, *window) for window in windows)

@@ -7,6 +7,8 @@ import law
 STATIONS = ["DUB", "LHR", "ORD", "DEN"]
 WEEKDAYS = ["MON", "TUE", "WED", "THU", "FRI", "SAT", "SUN"]
 EVENTS = "member,kind,report,parked,release,legs,credit\n"
+# Whether lenses may look at whole lines.
+WHOLE = False
 
 
 def duty(pick, report):
@@ -195,18 +197,18 @@ def reasons_text(month, reasons):
 
 
 def lens_text(lens):
-    grain, tracked, free30, days, windows = lens
+    grain, tracked, free30, days, windows, _ = lens
     words = [str(grain), f"{tracked:016x}", str(int(free30)), str(int(days))]
     return " ".join(words + [f"{kind}:{start}" for kind, start in windows])
 
 
 def item_text(word, *parts):
     if word == "noline":
-        return f"noline {parts[0] + 1} {lens_text(parts[1])}\n"
+        return f"noline {parts[0] + 1} {'whole ' if parts[1][-1] else ''}{lens_text(parts[1])}\n"
     if word == "weights":
         weights, lenses = parts
         heading = " ".join(["weights", str(len(lenses)), *map(str, weights)])
-        return heading + "\n" + "".join(f"lens {lens_text(lens)}\n" for lens in lenses)
+        return heading + "\n" + "".join(f"{'whole' if lens[-1] else 'lens'} {lens_text(lens)}\n" for lens in lenses)
     return " ".join([word, *(str(number + 1) for number in parts)]) + "\n"
 
 
@@ -229,8 +231,11 @@ def certificate_text(form, proofs, shown=()):
 
 
 def lens(pick, member):
+    whole = WHOLE and pick.random() < 0.6
     tracked = sum(
-        1 << bid for bid, (_, wish) in enumerate(member.bids) if law.can_be_tracked(wish) and pick.random() < 0.7
+        1 << bid
+        for bid, (_, wish) in enumerate(member.bids)
+        if (whole or law.can_be_tracked(wish)) and pick.random() < 0.7
     )
     if pick.random() < 0.04:
         tracked |= 1 << pick.randint(0, 5)
@@ -242,7 +247,7 @@ def lens(pick, member):
     if pick.random() < 0.02:
         windows.append(pick.choice([("f672", 485_280), ("d168", 515_520), ("f365", 402), ("f365", 364)]))
     grain = pick.choice([60, 60, 30, 15, 5, 1]) if pick.random() < 0.97 else 7
-    return grain, tracked, pick.random() < 0.4, pick.random() < 0.4, windows
+    return grain, tracked, pick.random() < 0.4, pick.random() < 0.4, windows, whole
 
 
 def nearly(pick, count):

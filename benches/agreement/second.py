@@ -1,4 +1,7 @@
-"""A certificate of version 1 written in version 2, by the rules of docs/FORMATS.md."""
+"""A certificate of version 1 written in version 2, by the rules of docs/FORMATS.md.
+
+It may have lenses that look at whole lines: `whole` in place of `lens`, and behind the number of a member.
+"""
 
 
 class Numbers:
@@ -8,7 +11,8 @@ class Numbers:
         self.numbers = {}
 
     def of(self, words):
-        return str(self.numbers.setdefault(" ".join(words), len(self.numbers) + 1))
+        line = " ".join(words if words[0] in ("lens", "whole") else ["lens", *words])
+        return str(self.numbers.setdefault(line, len(self.numbers) + 1))
 
 
 def item(lines, numbers):
@@ -20,7 +24,7 @@ def item(lines, numbers):
         return [" ".join([first, *words])]
     weights = words[1:]
     pairs = [f"{place}:{weight}" for place, weight in enumerate(weights, 1) if weight != "0"]
-    uses = [numbers.of(lines.pop(0).split(" ")[1:]) for _ in range(int(words[0]))]
+    uses = [numbers.of(lines.pop(0).split(" ")) for _ in range(int(words[0]))]
     return [" ".join(["weights", str(len(weights)), *pairs]), " ".join(["by", *uses])]
 
 
@@ -28,7 +32,7 @@ def proof(lines, count):
     """The lines of a proof of so many items at the front of these."""
     numbers = Numbers()
     items = [line for _ in range(count) for line in item(lines, numbers)]
-    return [f"proof {count} {len(numbers.numbers)}", *(f"lens {words}" for words in numbers.numbers), *items]
+    return [f"proof {count} {len(numbers.numbers)}", *numbers.numbers, *items]
 
 
 def text(first):

@@ -101,7 +101,7 @@ STATUSES = [
     check("yes", ONE),
     check("yes none", NONE),
     ("usage: pbs FOLDER award [--nodes N] | check | show MEMBER | make NUMBER MEMBERS PAIRINGS | "
-     "trial NUMBER MEMBERS PAIRINGS [--nodes N] | migrate | trade | calendar MEMBER", ONE, ["award", "--nodes", "0"], ()),
+     "trial NUMBER MEMBERS PAIRINGS [--nodes N] | migrate | trade | whatif MEMBER [--nodes N] | calendar MEMBER", ONE, ["award", "--nodes", "0"], ()),
     check("missing legs.csv", ONE, ("legs.csv",)),
     check("missing rules.toml", "no-such-month"),
     check("read fault crew.csv", ONE, ("crew.csv", "a folder")),
