@@ -104,6 +104,7 @@ def passes(month, m, goal, node, lens, line):
         and law.short_rest(month, member, line) is None
         and any(reaches(month, m, goal, tracked, line, credit) for credit in credits(member, down, up))
         and not (free30 and law.no_free_block(month, member, line) is not None)
+        and not (free30 and law.fourth_night(month, member, line) is not None)
         and not (days and law.days_off(month, member, line) < month.days_off)
         and all(keeps(month, member, line, *window) for window in windows)
     )

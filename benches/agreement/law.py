@@ -177,6 +177,24 @@ def no_free_block(month, member, line):
     return next((r for r in reports(month, member, line) if not has_free_block(duty, r)), None)
 
 
+def is_night(flight):
+    days_of = range(flight.report // 1440, (flight.parked - 1) // 1440 + 1)
+    return any(flight.report < 1440 * d + 360 and 1440 * d + 120 < flight.parked for d in days_of)
+
+
+def fourth_night(month, member, line):
+    """The least report, of the month or later, of a flight that is the fourth night in a row."""
+    row, before = 0, None
+    for flight in sorted((e for e in events(month, member, line) if e.kind == "flight"), key=lambda e: e.report):
+        if before is None or flight.report - before.release >= 1_800 or not is_night(flight):
+            row = 0
+        row += is_night(flight)
+        if row >= 4 and flight.report >= MONTH:
+            return flight.report
+        before = flight
+    return None
+
+
 def minutes_in(intervals, start, end):
     """Minutes of the union. Intervals of one member do not overlap where these are counted."""
     return sum(max(0, min(b, end) - max(a, start)) for a, b in intervals)
@@ -214,6 +232,9 @@ def illegality(month, member, line):
     limit = broken_limit(month, member, line)
     if limit is not None:
         return limit
+    night = fourth_night(month, member, line)
+    if night is not None:
+        return 10, night
     total, off = credit(month, member, line), days_off(month, member, line)
     if not member.low <= total <= member.high:
         return 8, total
