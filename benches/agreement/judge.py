@@ -40,7 +40,7 @@ def lens_fault(member, lens):
     for bid in range(64):
         if not tracked >> bid & 1 or bid < len(member.bids) and law.can_be_tracked(member.bids[bid][1]):
             continue
-        if not whole or bid >= len(member.bids) or of_line == 8:
+        if not whole or bid >= len(member.bids) or of_line == 6:
             return [1, bid + 1]
         of_line += 1
     if len(windows) > 16:

@@ -49,7 +49,7 @@ bid_whole None h = cc
 bid_whole (Some b) h = wish_whole b.wish h
 
 pub class_counts : (problem : Problem) (member : ℕ) (goal : Goal) (lens : Lens) (granted : ℕ → Bool) (terms : Terms)
-    → ((bids : ℕ) → count_between (is_whole_tracked problem member lens) 0 bids ≤ 8) → IsTerms problem member goal lens granted terms → AreCounted problem member terms
+    → ((bids : ℕ) → count_between (is_whole_tracked problem member lens) 0 bids ≤ 6) → IsTerms problem member goal lens granted terms → AreCounted problem member terms
 class_counts problem member goal lens granted terms few are = record {
   counting = λ bid h. (parts bid h).1;
   few =

@@ -134,7 +134,7 @@ module _ (problem : Problem) (member : ℕ) (goal : Goal) (node : List Decision)
   kind_there o b w z e h = kind_of b.wish w z (subst (λ (o : Option Bid). (option_map_or (λ (x : Bid). is_trackable x.wish) o false || (w && (option_map_or (λ (x : Bid). is_whole x.wish) o false && z))) ≡ true) e h)
 
   kind_at : (k : ℕ) (b : Bid) → slice_get (bids_of problem member) k ≡ Some b → is_tracked lens k ≡ true → is_whole b.wish ≡ not (is_trackable b.wish)
-  kind_at k b e t = kind_there (slice_get (bids_of problem member) k) b lens.whole (nat_lt (count_between (is_whole_tracked problem member lens) 0 k) 8) e (shape.trackable k t)
+  kind_at k b e t = kind_there (slice_get (bids_of problem member) k) b lens.whole (nat_lt (count_between (is_whole_tracked problem member lens) 0 k) 6) e (shape.trackable k t)
 
   narrow_at : (terms : Terms) (narrow : Lens) (x : ℕ) (line : List ℕ) → IsClassLens problem member lens terms.days_off narrow
       → (granted : ℕ → Bool) (k : ℕ) (b : Bid) → slice_get (bids_of problem member) k ≡ Some b
@@ -423,23 +423,23 @@ module _ (problem : Problem) (member : ℕ) (goal : Goal) (node : List Decision)
   room None l c w h = cc
   room (Some b) l c w h = room_at (is_trackable b.wish) (is_whole b.wish) l c (kinds_apart b.wish) w h
 
-  few_at : (n : ℕ) → is_whole_tracked problem member lens n ≡ true → count_between (is_whole_tracked problem member lens) 0 n < 8
+  few_at : (n : ℕ) → is_whole_tracked problem member lens n ≡ true → count_between (is_whole_tracked problem member lens) 0 n < 6
   few_at n h =
       let parts = and_parts (is_tracked lens n) (has_whole problem member n) h in
-      let fewer = room (slice_get (bids_of problem member) n) lens.whole (nat_lt (count_between (is_whole_tracked problem member lens) 0 n) 8) parts.1 (shape.trackable n parts.0) in
+      let fewer = room (slice_get (bids_of problem member) n) lens.whole (nat_lt (count_between (is_whole_tracked problem member lens) 0 n) 6) parts.1 (shape.trackable n parts.0) in
       grind (arith, nat_tests)
 
-  few_next : (b : Bool) (count : ℕ) → (b ≡ true → count < 8) → count ≤ 8 → count + cond b 1 0 ≤ 8
+  few_next : (b : Bool) (count : ℕ) → (b ≡ true → count < 6) → count ≤ 6 → count + cond b 1 0 ≤ 6
   few_next true count h le = let lt = h refl in omega (arith, lt)
   few_next false count h le = omega (arith, le)
 
-  few : (n : ℕ) → count_between (is_whole_tracked problem member lens) 0 n ≤ 8
+  few : (n : ℕ) → count_between (is_whole_tracked problem member lens) 0 n ≤ 6
   few zero = let none = count_between-none (is_whole_tracked problem member lens) 0 in omega (arith, none)
   few (suc n) =
       let e : suc n ≡ n + 1 = omega arith in
       let one = count_between-one (is_whole_tracked problem member lens) 0 n (omega arith) in
       let next = few_next (is_whole_tracked problem member lens n) (count_between (is_whole_tracked problem member lens) 0 n) (few_at n) (few n) in
-      subst (λ (m : ℕ). count_between (is_whole_tracked problem member lens) 0 m ≤ 8) (sym e) (omega (arith, one, next))
+      subst (λ (m : ℕ). count_between (is_whole_tracked problem member lens) 0 m ≤ 6) (sym e) (omega (arith, one, next))
 
   pub passes_by_classes : PassesByClasses problem member goal node lens
   passes_by_classes = record {

@@ -33,10 +33,10 @@ pub record IsInClass (problem : Problem) (member : ℕ) (goal : Goal) (node : Li
   pub class : IsClass problem member goal lens (is_in granted)
   pub keeps : KeepsClass problem member goal node lens (is_in granted) line
 
--- the lines of a lens are those of its classes, which are few: at most eight bids can be in the sets that tell them
+-- the lines of a lens are those of its classes, which are few: at most six bids can be in the sets that tell them
 -- apart
 pub record PassesByClasses (problem : Problem) (member : ℕ) (goal : Goal) (node : List Decision) (lens : Lens) : Type 0 where
-  pub few : (bids : ℕ) → count_between (is_whole_tracked problem member lens) 0 bids ≤ 8
+  pub few : (bids : ℕ) → count_between (is_whole_tracked problem member lens) 0 bids ≤ 6
   pub some :
       (line : List ℕ) → IsLensLine problem member goal node lens line
       → IsInClass problem member goal node lens line

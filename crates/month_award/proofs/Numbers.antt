@@ -55,7 +55,7 @@ no_kind false few = refl
 
 not_trackable : (problem : Problem) (member : ℕ) (lens : Lens) (bid : ℕ) → 64 ≤ bid → may_track problem member lens bid ≡ false
 not_trackable problem member lens bid far =
-    let few : Bool = nat_lt (count_between (is_whole_tracked problem member lens) 0 bid) 8 in
+    let few : Bool = nat_lt (count_between (is_whole_tracked problem member lens) 0 bid) 6 in
     let past : slice_get (bids_of problem member) bid ≡ None =
     slice_get_past (bids_of problem member) bid (omega (arith, far, few_bids problem.bids member problem.valid.few_bids)) in
     ap (λ o. option_map_or (λ (b : Bid). is_trackable b.wish) o false || (lens.whole && (option_map_or (λ (b : Bid). is_whole b.wish) o false && few))) past

@@ -147,5 +147,5 @@ trackable-same old new m lens bid e =
     (λ (xs : List Bid). option_map_or (λ b. is_trackable b.wish) (slice_get xs bid) false
     || (lens.whole
     && (option_map_or (λ b. is_whole b.wish) (slice_get xs bid) false
-    && nat_lt (count_between (λ n. is_tracked lens n && option_map_or (λ b. is_whole b.wish) (slice_get xs n) false) 0 bid) 8)))
+    && nat_lt (count_between (λ n. is_tracked lens n && option_map_or (λ b. is_whole b.wish) (slice_get xs n) false) 0 bid) 6)))
     e
