@@ -8,7 +8,8 @@ use Rattle.std.proofs.lemmas.Option.{slice_get-get_or}
 use Rattle.label_setter.specs.declared.graph.Arc.{Arc}
 use Rattle.chain_search.specs.Leavings.{Leaving}
 use Rattle.chain_search.specs.Rooms.{less_by}
-use Rattle.chain_search.specs.Rows.{IsBetween, IsLowOrBack, PassesOn, RaisedBy, none_from}
+use Rattle.label_setter.specs.Meters.{IsBetween}
+use Rattle.chain_search.specs.Rows.{IsLowOrBack, PassesOn, RaisedBy, none_from}
 use Rattle.chain_search.proofs.ListReads.{same_some}
 use Rattle.chain_search.proofs.Walking.{le_through}
 use Rattle.chain_search.proofs.TableRows.{CoversFirst, Raised, between_more, between_row, less_or_not}

@@ -14,7 +14,8 @@ use Rattle.label_setter.specs.Graphs.{FitsPlaces, IsGraph}
 use Rattle.label_setter.specs.Chains.{GraphOf, Leads, Reached}
 use Rattle.chain_search.specs.Bounds.{IsBound}
 use Rattle.chain_search.specs.Leavings.{Leaving}
-use Rattle.chain_search.specs.Rows.{ComesBack, GoesBack, IsBack, IsBetween, IsLowOrBack, RaisedBy}
+use Rattle.label_setter.specs.Meters.{IsBetween}
+use Rattle.chain_search.specs.Rows.{ComesBack, GoesBack, IsBack, IsLowOrBack, RaisedBy}
 use Rattle.chain_search.specs.SeenChains.{IsSeen, IsSeenOrLow, LeadsDown}
 use Rattle.chain_search.specs.Views.{CoarseLaws, follows}
 use Rattle.chain_search.proofs.ListReads.{below_or_at, contains_read, read_contains, same_or_not, same_some}

@@ -1,11 +1,7 @@
 -- Rows of what chains may still gain, while a table is made.
 use Rattle.std.specs.Prelude.{◌≡◌, ◌⊎◌, ◌+◌, ◌-◌, ◌*◌, ◌^◌, ◌<◌, ◌≤ℤ◌, ◌+ℤ◌, neg_ℤ, pos, ℕ, ℤ, List, Option, Some, None, get_or, if◌then◌else◌, length, nat_lt, slice_get}
 use Rattle.label_setter.specs.declared.graph.Arc.{Arc}
-
--- no number is below what is impossible, or above what so many arcs may gain
-pub record IsBetween (arcs : ℕ) (row : List ℤ) : Type 0 where
-  pub low : (k : ℕ) → neg_ℤ (pos (2 ^ 60)) ≤ℤ get_or row k (pos 0)
-  pub high : (k : ℕ) → get_or row k (pos 0) ≤ℤ pos (arcs * 2 ^ 40)
+use Rattle.label_setter.specs.Meters.{IsBetween}
 
 -- the number is what is gained before that of the state to which the move leads
 pub record IsBack (moves : ℕ → Option ℕ) (there : List ℤ) (gain : ℤ) (state : ℕ) (number : ℤ) : Type 0 where

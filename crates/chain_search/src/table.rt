@@ -7,7 +7,8 @@ ghost use Rattle.chain_search.specs.Bounds.{IsBound};
 ghost use Rattle.chain_search.specs.Leavings.{AreWays, Leaving};
 ghost use Rattle.chain_search.specs.Views.{follows};
 ghost use Rattle.chain_search.specs.Rooms.{less_by};
-ghost use Rattle.chain_search.specs.Rows.{GoesBack, IsBetween, IsLowOrBack, PassesOn, RaisedBy, none_from};
+ghost use Rattle.label_setter.specs.Meters.{IsBetween};
+ghost use Rattle.chain_search.specs.Rows.{GoesBack, IsLowOrBack, PassesOn, RaisedBy, none_from};
 ghost use Rattle.chain_search.specs.SeenChains.{IsSeenOrLow};
 ghost use Rattle.chain_search.specs.Tables.{rested};
 

@@ -1,7 +1,8 @@
 use Rattle.std.proofs.Common.{◌≡◌, ◌+◌, ◌-◌, ◌*◌, ◌<◌, ◌++◌, [], ℕ, ℤ, List, Some, length, get_or, pos, take, drop, arith, sym, ◌∙◌, ap, subst}
 use Rattle.std.specs.Prelude.{slice_get}
 use Rattle.label_setter.specs.declared.graph.Arc.{Arc}
-use Rattle.chain_search.specs.Rows.{GoesBack, IsBetween, IsLowOrBack}
+use Rattle.label_setter.specs.Meters.{IsBetween}
+use Rattle.chain_search.specs.Rows.{GoesBack, IsLowOrBack}
 use Rattle.chain_search.proofs.Raising.{last_more, last_start}
 use Rattle.chain_search.proofs.TableRows.{filled_more, filled_start, bound_of_table, seen_of_table, written}
 use Rattle.chain_search.proofs.table.coarse_rest.Goals as goal

@@ -1,7 +1,8 @@
 use Rattle.std.proofs.Common.{◌≡◌, ◌+◌, ◌-◌, ◌*◌, ◌<◌, ℕ, pos, List, Some, length, get_or, arith, sym, ◌∙◌, ap, subst}
 use Rattle.std.proofs.lemmas.Option.{slice_get-get_or}
 use Rattle.label_setter.specs.declared.graph.Arc.{Arc}
-use Rattle.chain_search.specs.Rows.{IsBetween, RaisedBy}
+use Rattle.label_setter.specs.Meters.{IsBetween}
+use Rattle.chain_search.specs.Rows.{RaisedBy}
 use Rattle.chain_search.proofs.Hunting.{listed_read}
 use Rattle.chain_search.proofs.Raising.{begins_between, begins_covers, begins_from}
 use Rattle.chain_search.proofs.TableRows.{back_more, between_row, covers_all, covers_more, rows_fit}

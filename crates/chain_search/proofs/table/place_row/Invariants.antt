@@ -1,5 +1,6 @@
 use Rattle.std.proofs.Common.{◌-◌, ◌<◌, ℕ, get_or, pos}
-use Rattle.chain_search.specs.Rows.{IsBetween, IsLowOrBack}
+use Rattle.label_setter.specs.Meters.{IsBetween}
+use Rattle.chain_search.specs.Rows.{IsLowOrBack}
 use Rattle.chain_search.proofs.TableRows.{CoversFirst}
 use Rattle.chain_search.proofs.table.place_row.Given as goal
 

@@ -1,5 +1,5 @@
 use Rattle.std.proofs.Common.{◌≡◌, ◌<◌, ℕ, ◌≤ℤ◌, ◌^◌, neg_ℤ, if◌then◌else◌, pos, get_or, length, true}
-use Rattle.chain_search.specs.Rows.{IsBetween}
+use Rattle.label_setter.specs.Meters.{IsBetween}
 use Rattle.chain_search.proofs.table.sink_row.Given as goal
 
 abbrev pub invariant-loop-state : goal.invariant-loop-state
