@@ -22,7 +22,7 @@ use Rattle.lens_classes.proofs.ClassLines.{passes_by_classes}
 use Rattle.count_graphs.proofs.FewCounted.{class_counts}
 use Rattle.line_generator.specs.declared.classes.Class.{Class}
 use Rattle.line_generator.specs.declared.price.PricedLine.{PricedLine}
-use Rattle.line_generator.specs.ClassLines.{AllBelow, AllOfClass, AtMost, IsClassLine, IsClassOf, LosesImplied, heavier, spread}
+use Rattle.line_generator.specs.ClassLines.{AllBelow, AllOfClass, AtMost, IsClassLine, IsClassOf, IsSpared, LosesImplied, heavier, spread}
 use Rattle.line_generator.specs.Questions.{IsQuestion, IsTermQuestion}
 use Rattle.line_generator.proofs.BidSets.{not_in, number_of, number_small, set_met}
 
@@ -98,7 +98,8 @@ module _ (problem : Problem) (member : ℕ) (goal : Goal) (node : List Decision)
   pub few_whole : (bids : ℕ) → IsLens problem member lens → ((bid : ℕ) → is_in bids bid ≡ is_whole_tracked problem member lens bid) → count_between (is_in bids) 0 64 ≤ 8
   few_whole bids shape are =
       let same : is_in bids ≡ is_whole_tracked problem member lens = fun_ext are in
-      subst (λ (test : ℕ → Bool). count_between test 0 64 ≤ 8) (sym same) ((passes_by_classes problem member goal node lens shape).few 64)
+      let few : count_between (is_in bids) 0 64 ≤ 6 = subst (λ (test : ℕ → Bool). count_between test 0 64 ≤ 6) (sym same) ((passes_by_classes problem member goal node lens shape).few 64) in
+      omega (arith, few)
 
   module _ (bids : ℕ) where
     pub below_none : (P : ℤ → Type 0) → AllBelow problem member goal node lens weights (is_in bids) 0 P
@@ -114,6 +115,16 @@ module _ (problem : Problem) (member : ℕ) (goal : Goal) (node : List Decision)
           let same : is_in granted ≡ spread (is_in bids) n = fun_ext are in
           let there : spread (is_in bids) number ≡ is_in granted = ap (λ (k : ℕ). spread (is_in bids) k) e ∙ sym same in
           second (weight_of weights line) (here line (subst (λ (test : ℕ → Bool). IsClassLine problem member goal node lens test line) there is))
+    ]
+
+    -- a class that another has all lines of adds nothing
+    pub below_spared : (n : ℕ) (P : ℤ → Type 0) → IsSpared problem member goal lens (is_in bids) n
+        → AllBelow problem member goal node lens weights (is_in bids) n P → AllBelow problem member goal node lens weights (is_in bids) (n + 1) P
+    below_spared n P spared below = λ number less line is. elim (cases_lt number n) [
+      | inl low ↦ below number low line is
+      | inr high ↦
+          let e : number ≡ n = omega (arith, less, high) in
+          below spared.less spared.below line (spared.lines node line (subst (λ (k : ℕ). IsClassLine problem member goal node lens (spread (is_in bids) k) line) e is))
     ]
 
     -- what holds of all sets of the bids that only a whole line decides holds of all lines

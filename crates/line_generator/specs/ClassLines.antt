@@ -34,6 +34,12 @@ pub record LosesImplied (problem : Problem) (member : ℕ) (lens : Lens) (grante
   pub left : granted bid ≡ false
   pub implied : IsImpliedBy lost.wish terms
 
+-- the set has each tracked bid that all lines grant which keep the terms
+abbrev pub KeepsImplied : Problem → ℕ → Lens → (ℕ → Bool) → Terms → Type 0
+KeepsImplied problem member lens granted terms =
+    (bid : ℕ) (b : Bid) → slice_get (bids_of problem member) bid ≡ Some b → is_tracked lens bid ≡ true
+    → IsImpliedBy b.wish terms → granted bid ≡ true
+
 -- the bids are a class with each bid that is implied by it, and the line is in it
 pub record IsClassLine (problem : Problem) (member : ℕ) (goal : Goal) (node : List Decision) (lens : Lens) (granted : ℕ → Bool) (line : List ℕ) : Type 0 where
   pub is : IsClass problem member goal lens granted
@@ -50,6 +56,12 @@ pub record IsClassOf (problem : Problem) (member : ℕ) (goal : Goal) (lens : Le
   pub fits : AreTermsOf problem member class.terms
   pub shape : IsLens problem member lens → IsLens problem member class.lens
 
+-- each line of one class is a line of another, whatever is decided
+abbrev pub HasLinesOf : Problem → ℕ → Goal → Lens → (ℕ → Bool) → (ℕ → Bool) → Type 0
+HasLinesOf problem member goal lens wide granted =
+    (node : List Decision) (line : List ℕ) → IsClassLine problem member goal node lens granted line
+    → IsClassLine problem member goal node lens wide line
+
 -- all lines of the class weigh so that the fact holds
 abbrev pub AllOfClass : Problem → ℕ → Goal → List Decision → Lens → List ℤ → (ℕ → Bool) → (ℤ → Type 0) → Type 0
 AllOfClass problem member goal node lens weights granted P =
@@ -58,6 +70,12 @@ AllOfClass problem member goal node lens weights granted P =
 -- of some bids the set with this number: each bit of the number tells of one of them, in order
 abbrev pub spread : (ℕ → Bool) → ℕ → ℕ → Bool
 spread bids number bid = bids bid && is_in number (count_between bids 0 bid)
+
+-- a class with a smaller number has all lines of that with this number
+pub record IsSpared (problem : Problem) (member : ℕ) (goal : Goal) (lens : Lens) (bids : ℕ → Bool) (number : ℕ) : Type 0 where
+  pub less : ℕ
+  pub below : less < number
+  pub lines : HasLinesOf problem member goal lens (spread bids less) (spread bids number)
 
 -- the same of the sets with smaller numbers
 abbrev pub AllBelow : Problem → ℕ → Goal → List Decision → Lens → List ℤ → (ℕ → Bool) → ℕ → (ℤ → Type 0) → Type 0

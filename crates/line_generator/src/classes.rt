@@ -9,6 +9,7 @@ ghost use Rattle.line_generator.specs.ClassLines.{IsClassLine, IsClassOf};
 
 use crate::implied::loses_implied;
 use crate::reach::bids_weight;
+use crate::scarce::counts_scarce;
 use crate::sets::trackable_bids;
 use duty_calendar::{List, Memory};
 use lens_classes::{Terms, class_terms};
@@ -36,7 +37,7 @@ fn same_windows(alloc: Global, windows: &[Window]) -> Result<List<Window>, Memor
 }
 
 /// The lens of a class with so many days off.
-fn class_lens(
+pub(crate) fn class_lens(
     alloc: Global,
     problem: &Problem,
     member: u32,
@@ -60,7 +61,7 @@ fn class_lens(
 }
 
 /// The class that grants these bids, or nothing where it is none, where all its lines grant a bid more, so that they are in
-/// another class, or where it asks for more than all bids weigh.
+/// another class, or where it asks for more than all bids weigh or for more pairings of a kind than there are.
 pub(crate) fn class_of(
     alloc: Global,
     problem: &Problem,
@@ -83,6 +84,9 @@ pub(crate) fn class_of(
         return Ok(None);
     }
     let narrow = class_lens(alloc, problem, member, lens, terms.days_off)?;
+    if counts_scarce(problem, member, &terms) {
+        return Ok(None);
+    }
     if terms.floor > u64::from(bids_weight(problem, member)) {
         return Ok(None);
     }

@@ -8,9 +8,10 @@ ghost use Rattle.line_generator.specs.ClassLines.{AllOfClass, AtMost, heavier};
 ghost use Rattle.line_generator.specs.Questions.{IsQuestion, IsTermQuestion};
 
 use crate::bounded::heaviest_of_terms;
-use crate::classes::class_of;
+use crate::classes::{class_lens, class_of};
 use crate::price::{PricedLine, best_of_terms};
 use crate::sets::{sets_of, spread, whole_bids};
+use crate::spared::is_spared;
 use duty_calendar::Memory;
 use label_lattice::Steps;
 use lens_classes::Terms;
@@ -132,8 +133,12 @@ pub(crate) fn greatest_of_classes<L: Ledger>(
         (HasNoLine problem.now member goal.now node.now lens.now)) }
 {
     let bids = whole_bids(problem, member, lens);
+    let narrow = class_lens(alloc, problem, member, lens, 0)?;
     let mut best: Option<PricedLine> = None;
     for number in 0..sets_of(bids) {
+        if is_spared(problem, member, goal, lens, &narrow, bids, number) {
+            continue;
+        }
         let granted = spread(bids, number);
         let found = best_of_class(
             alloc, by, problem, member, goal, node, lens, granted, weights, steps,

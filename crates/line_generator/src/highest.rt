@@ -1,7 +1,7 @@
 //! A line above a bound, of one of the classes of a lens.
-ghost use Rattle.std.specs.Prelude.{◌≡◌, false, true, ◌+◌, ◌*◌, ◌<◌, ◌≤◌, ◌≤ℤ◌, IfOk, IfSome, Ok};
+ghost use Rattle.std.specs.Prelude.{◌≡◌, false, true, ◌+◌, ◌*◌, ◌<◌, ◌≤◌, ◌≤ℤ◌, IfNone, IfOk, IfSome, Ok};
 ghost use Rattle.std.specs.Int.Signed.{◌<ℤ◌};
-ghost use Rattle.roster_model.specs.Lenses.{IsLensLine, IsMostWeight};
+ghost use Rattle.roster_model.specs.Lenses.{HasNoLine, IsLensLine, IsMostWeight};
 ghost use Rattle.roster_model.specs.Weights.{weight_of};
 ghost use Rattle.lens_classes.specs.Classes.{is_in};
 ghost use Rattle.line_generator.specs.ClassLines.{AllOfClass, raised};
@@ -9,9 +9,12 @@ ghost use Rattle.line_generator.specs.Overs.{IfLine, over_of_best, with_answer};
 ghost use Rattle.line_generator.specs.Questions.{IsQuestion};
 
 use crate::above::{Over, Wanted, over_of_terms};
-use crate::classes::class_of;
+use crate::classes::{class_lens, class_of};
+use crate::greatest::{By, greatest_of_classes};
 use crate::price::PricedLine;
 use crate::sets::{sets_of, spread, whole_bids};
+use crate::spared::is_spared;
+use crate::stages::{LOWEST, MOST_STEPS};
 use duty_calendar::Memory;
 use label_lattice::Steps;
 use roster_model::{Goal, Lens, Node, Problem};
@@ -150,8 +153,12 @@ pub(crate) fn over_of_classes<L: Ledger>(
     ensures steps { steps.new ≤ steps.old + 256 * limit }
 {
     let bids = whole_bids(problem, member, lens);
+    let narrow = class_lens(alloc, problem, member, lens, 0)?;
     let mut best: Option<PricedLine> = None;
     for number in 0..sets_of(bids) {
+        if is_spared(problem, member, goal, lens, &narrow, bids, number) {
+            continue;
+        }
         let granted = spread(bids, number);
         let from = bound_of(&best, over);
         let answer = over_of_class(
@@ -163,4 +170,40 @@ pub(crate) fn over_of_classes<L: Ledger>(
         best = with_answer(best, answer);
     }
     Ok(answer_of(best))
+}
+
+/// The heaviest line of all classes of a lens, each searched above the best line of those before it. Where that takes too
+/// many steps, each is searched by itself.
+pub(crate) fn heaviest_of_classes<L: Ledger>(
+    alloc: Global,
+    problem: &Problem,
+    member: u32,
+    goal: &Goal,
+    node: &Node,
+    lens: &Lens,
+    weights: &[i64],
+    steps: &mut Steps<L>,
+) -> Result<Option<PricedLine>, Memory>
+    requires asked { IsQuestion problem.now member goal.now node.now lens.now weights.now }
+    ensures line { IfOk result (λ answer. IfSome answer
+        (λ b. IsLensLine problem.now member goal.now node.now lens.now b.line)) }
+    ensures weight { IfOk result (λ answer. IfSome answer
+        (λ b. weight_of weights.now b.line ≡ b.weight)) }
+    ensures most { IfOk result (λ answer. IfSome answer
+        (λ b. IsMostWeight problem.now member goal.now node.now lens.now weights.now b.weight)) }
+    ensures none { IfOk result (λ answer. IfNone answer
+        (HasNoLine problem.now member goal.now node.now lens.now)) }
+{
+    let wanted = Wanted::Heaviest;
+    let over = over_of_classes(
+        alloc, problem, member, goal, node, lens, weights, wanted, LOWEST, MOST_STEPS, steps,
+    )?;
+    match over {
+        Over::Line(priced) => Ok(Some(priced)),
+        Over::Nothing => Ok(None),
+        Over::Limit => {
+            let by = By::Climbs;
+            greatest_of_classes(alloc, by, problem, member, goal, node, lens, weights, steps)
+        }
+    }
 }

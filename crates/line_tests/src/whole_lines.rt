@@ -415,13 +415,13 @@ fn fault_of(alloc: Global, count: u32, tracked: u64) -> Result<Option<LensFault>
 }
 
 #[test]
-fn a_lens_has_eight_bids_of_whole_lines(rt: HostRuntime) -> Result<(), Memory> {
+fn a_lens_has_six_bids_of_whole_lines(rt: HostRuntime) -> Result<(), Memory> {
     let alloc = rt.alloc();
-    assert!(rt; fault_of(alloc, 10, 0xff)?.is_none());
-    assert!(rt; fault_of(alloc, 10, 0x3fc)?.is_none());
-    assert!(rt; fault_of(alloc, 10, 0x1ff)? == Some(LensFault::Untrackable(8)));
-    assert!(rt; fault_of(alloc, 10, 0x3ff)? == Some(LensFault::Untrackable(8)));
-    assert!(rt; fault_of(alloc, 8, 0x100)? == Some(LensFault::Untrackable(8)));
+    assert!(rt; fault_of(alloc, 10, 0x3f)?.is_none());
+    assert!(rt; fault_of(alloc, 10, 0x3f0)?.is_none());
+    assert!(rt; fault_of(alloc, 10, 0x7f)? == Some(LensFault::Untrackable(6)));
+    assert!(rt; fault_of(alloc, 10, 0x3ff)? == Some(LensFault::Untrackable(6)));
+    assert!(rt; fault_of(alloc, 6, 0x40)? == Some(LensFault::Untrackable(6)));
     Ok(())
 }
 

@@ -5,11 +5,19 @@ use Rattle.roster_model.specs.Weights.{weight_of}
 use Rattle.lens_classes.specs.Classes.{is_in}
 use Rattle.line_generator.specs.ClassLines.{AllBelow, AtMost, heavier}
 use Rattle.line_generator.specs.declared.price.PricedLine.{PricedLine}
-use Rattle.line_generator.proofs.ClassBests.{below_more, few_whole, heavier_first, heavier_has, heavier_second, most_of_all, none_of_all}
+use Rattle.line_generator.proofs.ClassBests.{below_more, below_spared, few_whole, heavier_first, heavier_has, heavier_second, most_of_all, none_of_all}
 use Rattle.line_generator.proofs.greatest.greatest_of_classes.Goals as goal
 
 pub sets_of-number-end-requires : goal.sets_of-number-end-requires
 sets_of-number-end-requires g c = record { few = few_whole c.args.problem.now c.args.member c.args.goal.now c.args.node.now c.args.lens.now c.args.weights.now c.whole_bids-bids.result c.requires.asked.shape c.whole_bids-bids.ensures.bids }
+
+pub loop-number-preserved-then-is_spared : goal.loop-number-preserved-then-is_spared
+loop-number-preserved-then-is_spared g c = record {
+  line = c.loop-number.invariant.line;
+  weight = c.loop-number.invariant.weight;
+  most = below_spared c.args.problem.now c.args.member c.args.goal.now c.args.node.now c.args.lens.now c.args.weights.now c.whole_bids-bids.result c.loop-number.number (AtMost c.loop-number.best)
+      (c.is_spared.ensures.spared c.if-is_spared.true) c.loop-number.invariant.most;
+}
 
 pub loop-number-preserved : goal.loop-number-preserved
 loop-number-preserved g c =

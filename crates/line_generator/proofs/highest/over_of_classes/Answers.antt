@@ -10,7 +10,7 @@ use Rattle.line_generator.specs.Overs.{IfLine}
 use Rattle.line_generator.specs.declared.above.Over.{Over}
 use Rattle.line_generator.specs.declared.above.Over.TheVariants.{Nothing, Limit}
 use Rattle.line_generator.specs.declared.price.PricedLine.{PricedLine}
-use Rattle.line_generator.proofs.ClassBests.{below_all, few_whole}
+use Rattle.line_generator.proofs.ClassBests.{below_all, below_spared, few_whole}
 use Rattle.line_generator.proofs.ClassOvers.{above_first, answer_has, below_answer, end_has, end_most, end_none, end_told, line_if, line_never, steps_at_end, steps_within}
 use Rattle.line_generator.proofs.highest.over_of_classes.Goals as goal
 
@@ -57,6 +57,19 @@ returns-then-is_last-clause-above g c =
     above_first c.args.over (to_z w64 (of_z w64 c.bound_of-from.result)) c.loop-number.best c.in_ok-answer.answer
     (to_z-of_z w64 c.bound_of-from.result range ∙ (c.bound_of-from.ensures.bound ∙ ap (raised c.loop-number.best) same))
     (subst (λ (z : ℤ). IfSome c.loop-number.best (λ b. z <ℤ b.weight)) same c.loop-number.invariant.above) c.in_ok-answer.ensures.above
+
+pub loop-number-preserved-then-is_spared : goal.loop-number-preserved-then-is_spared
+loop-number-preserved-then-is_spared g c =
+    let before = c.loop-number.invariant.steps in
+    record {
+      line = c.loop-number.invariant.line;
+      weight = c.loop-number.invariant.weight;
+      above = c.loop-number.invariant.above;
+      most = below_spared c.args.problem.now c.args.member c.args.goal.now c.args.node.now c.args.lens.now c.args.weights.now c.whole_bids-bids.result c.loop-number.number
+          (λ (w : ℤ). w ≤ℤ raised c.loop-number.best (to_z w64 (of_z w64 c.args.over))) (c.is_spared.ensures.spared c.if-is_spared.true) c.loop-number.invariant.most;
+      onward = c.loop-number.invariant.onward;
+      steps = omega (arith, before);
+    }
 
 pub loop-number-preserved : goal.loop-number-preserved
 loop-number-preserved g c =
