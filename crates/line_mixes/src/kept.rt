@@ -5,6 +5,7 @@ ghost use Rattle.roster_model.specs.Scores.{bids_of};
 use crate::ladder::{first_lens, first_lenses, is_of_line, is_trackable};
 use crate::pairings::PairingSet;
 use crate::pricing::Care;
+use crate::program::Program;
 use bid_score::{granted, score};
 use column_pool::Pool;
 use duty_calendar::{Copied, List, Memory};
@@ -39,14 +40,18 @@ struct Flat {
 }
 
 /// The kept lines, which are found by member and number; for each member a lens that sees the rules which its lines
-/// broke; and whose turn it was to be priced first.
+/// broke, and for how many searches more it is held to be dear; whether one ever was; whose turn it was to be priced first;
+/// and the last program.
 #[derive(Drop)]
 pub struct Kept {
     pool: Pool,
     flats: Vec<Flat>,
     profiles: Vec<Vec<Profile>>,
     lenses: List<Lens>,
+    dear: Vec<u32>,
+    has_dear: bool,
     turn: usize,
+    program: Option<Program>,
 }
 
 /// The number in 32 bits, or the greatest where it does not fit.
@@ -239,8 +244,49 @@ impl Kept {
             flats,
             profiles,
             lenses: first_lenses(alloc, problem)?,
+            dear: vec![in alloc; 0u32; problem.base.members.len()]?,
+            has_dear: false,
             turn: 0,
+            program: None,
         })
+    }
+
+    /// Whether the member's searches are held to be dear.
+    pub fn is_dear(&self, member: usize) -> bool {
+        match self.dear.get(member) {
+            Some(searches) => *searches > 0,
+            None => false,
+        }
+    }
+
+    /// Whether any member's searches were held to be dear before.
+    pub fn has_dear(&self) -> bool {
+        self.has_dear
+    }
+
+    /// Holds the member's searches to be dear for so many of them.
+    pub fn hold_dear(&mut self, member: usize, searches: u32) {
+        self.has_dear = true;
+        if let Some(dear) = self.dear.get_mut(member) {
+            *dear = searches;
+        }
+    }
+
+    /// Counts a search that was held to be dear.
+    pub fn count_dear(&mut self, member: usize) {
+        if let Some(dear) = self.dear.get_mut(member) {
+            *dear = dear.saturating_sub(1);
+        }
+    }
+
+    /// Hands out the last program.
+    pub fn take_program(&mut self) -> Option<Program> {
+        self.program.take()
+    }
+
+    /// Keeps a program.
+    pub fn keep_program(&mut self, program: Program) {
+        self.program = Some(program);
     }
 
     /// The lens with which the member's searches begin, once more.

@@ -13,7 +13,7 @@ const MOST_WINDOWS: usize = 16;
 const FIRST_WINDOWS: usize = 4;
 
 /// How many bids that only a whole line decides a lens may track.
-const MOST_WHOLE: u32 = 8;
+const MOST_WHOLE: u32 = 6;
 
 /// Whether one pairing of a line can decide the wish.
 pub(crate) fn is_trackable(wish: &Wish) -> bool {

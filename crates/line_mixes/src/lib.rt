@@ -9,6 +9,8 @@ mod ladder;
 mod mix;
 mod pairings;
 mod pricing;
+mod program;
+mod simplex;
 mod tested;
 
 pub use board::{Board, Row};
@@ -17,4 +19,5 @@ pub use kept::{Kept, Profile, is_granted, is_member, number};
 pub use ladder::{first_lens, first_lenses, is_first};
 pub use mix::{Mix, Share, WHOLE, needed};
 pub use pairings::PairingSet;
-pub use pricing::{Care, Priced, price, price_afresh};
+pub use pricing::{Care, Priced, price, price_afresh, price_briefly};
+pub use program::Program;

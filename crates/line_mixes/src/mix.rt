@@ -2,6 +2,7 @@
 
 use crate::columns::Columns;
 use crate::kept::Kept;
+use crate::program::Program;
 use duty_calendar::Memory;
 use roster_model::Problem;
 use std::alloc::Global;
@@ -16,11 +17,13 @@ pub struct Share {
     pub part: i64,
 }
 
-/// For each member the shares of some lines, and by how much the lines so mixed are above the needs.
+/// For each member the shares of some lines, and by how much the lines so mixed are above the needs; and the weights that
+/// were tested last, if those are not what the misses make.
 #[derive(Drop)]
 pub struct Mix {
     shares: Vec<Vec<Share>>,
     misses: Vec<i64>,
+    tested: Vec<i64>,
 }
 
 /// What the weights of some pairings are together.
@@ -148,6 +151,17 @@ fn greatest(shares: &[Share]) -> Option<Share> {
     best
 }
 
+/// Gives a line the whole share.
+fn push_whole(shares: &mut Vec<Share>, place: Option<&usize>) -> Result<(), Memory> {
+    if let Some(place) = place {
+        shares.push(Share {
+            place: *place,
+            part: WHOLE,
+        })?;
+    }
+    Ok(())
+}
+
 /// Scales the shares so that they are a whole again; the first takes what rounding leaves.
 fn scale(shares: &mut [Share]) {
     let mut total: i64 = 0;
@@ -179,7 +193,21 @@ impl Mix {
         Ok(Mix {
             shares: Vec::new(alloc),
             misses,
+            tested: Vec::new(alloc),
         })
+    }
+
+    /// Adds the shares of the next member.
+    fn add(&mut self, kept: &Kept, member: usize, shares: Vec<Share>) -> Result<(), Memory> {
+        for share in &shares {
+            shift(
+                &mut self.misses,
+                kept.pairings(member, share.place),
+                share.part,
+            );
+        }
+        self.shares.push(shares)?;
+        Ok(())
     }
 
     /// The shares of another mix, as far as their lines are among the columns; else the last of these.
@@ -198,21 +226,31 @@ impl Mix {
             };
             scale(&mut shares);
             if shares.is_empty() {
-                if let Some(place) = columns.places(member).last() {
-                    shares.push(Share {
-                        place: *place,
-                        part: WHOLE,
-                    })?;
-                }
+                push_whole(&mut shares, columns.places(member).last())?;
             }
-            for share in &shares {
-                shift(
-                    &mut mix.misses,
-                    kept.pairings(member, share.place),
-                    share.part,
-                );
+            mix.add(kept, member, shares)?;
+        }
+        Ok(mix)
+    }
+
+    /// The shares of a program, and the weights that were tested last.
+    pub fn of_program(
+        alloc: Global,
+        problem: &Problem,
+        kept: &Kept,
+        columns: &Columns,
+        program: &Program,
+        tested: Vec<i64>,
+    ) -> Result<Mix, Memory> {
+        let mut mix = Mix::empty(alloc, problem)?;
+        mix.tested = tested;
+        for member in 0..problem.base.members.len() {
+            let mut shares = program.shares(alloc, member)?;
+            scale(&mut shares);
+            if shares.is_empty() {
+                push_whole(&mut shares, columns.places(member).first())?;
             }
-            mix.shares.push(shares)?;
+            mix.add(kept, member, shares)?;
         }
         Ok(mix)
     }
@@ -226,6 +264,7 @@ impl Mix {
         Ok(Mix {
             shares,
             misses: Vec::from_slice(alloc, &self.misses)?,
+            tested: Vec::from_slice(alloc, &self.tested)?,
         })
     }
 
@@ -247,8 +286,11 @@ impl Mix {
         &self.misses
     }
 
-    /// Weights that are greater where the mix is less above the needs.
+    /// The weights that were tested last; else some that are greater where the mix is less above the needs.
     pub fn weights(&self, alloc: Global) -> Result<Vec<i64>, Memory> {
+        if !self.tested.is_empty() {
+            return Ok(Vec::from_slice(alloc, &self.tested)?);
+        }
         let mut weights = Vec::new(alloc);
         for miss in &self.misses {
             weights.push(miss.wrapping_neg())?;

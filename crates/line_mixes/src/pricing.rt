@@ -15,6 +15,8 @@ use std::alloc::Global;
 const DEEP: u64 = 1_000_000;
 /// How many steps it may take in guesses at rosters.
 const SHALLOW: u64 = 20_000;
+/// How many steps a brief one may take.
+const BRIEF: u64 = 5_000;
 /// How often a lens is made to look at more.
 const MOST_RUNGS: u32 = 24;
 
@@ -109,7 +111,7 @@ fn look(
     Ok((found, !is_finer))
 }
 
-/// As `price`, by a ladder that begins with this lens.
+/// As `price`, by a ladder that begins with this lens, each search with so many steps.
 fn price_from(
     alloc: Global,
     problem: &Problem,
@@ -121,14 +123,15 @@ fn price_from(
     over: i64,
     care: Care,
     lens: Lens,
+    steps: u64,
 ) -> Result<Priced, Memory>
     requires goal { IsGoal problem.now goal.now }
 {
     let mut lens = lens;
     care.adjust(problem, member, goal, &mut lens);
+    let steps = if lens.whole { care.steps() } else { steps };
     let mut found = Priced::Unknown;
     for _ in 0..MOST_RUNGS {
-        let steps = care.steps();
         let answer = row_over(
             alloc,
             problem,
@@ -143,7 +146,11 @@ fn price_from(
         let priced = match answer {
             Over::Line(priced) => priced,
             Over::Nothing => return Ok(Priced::Nothing(lens)),
-            Over::Limit => return Ok(found),
+            Over::Limit if steps < care.steps() => return Ok(Priced::Unknown),
+            Over::Limit => {
+                kept.look_through(member, first_lens(alloc, problem, member));
+                return Ok(found);
+            }
         };
         let (next, is_last) = look(alloc, problem, kept, member, goal, care, &mut lens, priced)?;
         if let Some(next) = next {
@@ -172,8 +179,29 @@ pub fn price(
     requires goal { IsGoal problem.now goal.now }
 {
     let lens = kept.lens(alloc, problem, member)?;
+    let steps = care.steps();
     price_from(
-        alloc, problem, kept, member, goal, row, weights, over, care, lens,
+        alloc, problem, kept, member, goal, row, weights, over, care, lens, steps,
+    )
+}
+
+/// As `price`, with few steps where lenses look at pairings one by one, and no answer where these do not suffice.
+pub fn price_briefly(
+    alloc: Global,
+    problem: &Problem,
+    kept: &mut Kept,
+    member: usize,
+    goal: &Goal,
+    row: &Row,
+    weights: &[i64],
+    over: i64,
+    care: Care,
+) -> Result<Priced, Memory>
+    requires goal { IsGoal problem.now goal.now }
+{
+    let lens = kept.lens(alloc, problem, member)?;
+    price_from(
+        alloc, problem, kept, member, goal, row, weights, over, care, lens, BRIEF,
     )
 }
 
@@ -194,8 +222,9 @@ pub fn price_afresh(
 {
     let before = kept.lens(alloc, problem, member)?;
     let lens = first_lens(alloc, problem, member);
+    let steps = care.steps();
     let priced = price_from(
-        alloc, problem, kept, member, goal, row, weights, over, care, lens,
+        alloc, problem, kept, member, goal, row, weights, over, care, lens, steps,
     )?;
     kept.look_through(member, before);
     Ok(priced)

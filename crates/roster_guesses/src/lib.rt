@@ -4,13 +4,18 @@
 mod chance;
 mod diving;
 mod known;
+mod lenses;
+mod mastering;
 mod relaxing;
 mod repairing;
+mod testing;
 mod wholes;
 
 pub use chance::Chance;
 pub use diving::dive;
 pub use known::{AllKnown, Known};
-pub use relaxing::{Bounded, Relaxed, plainer, plainer_without_line, relax};
+pub use lenses::{plainer, plainer_without_line};
+pub use relaxing::{Relaxed, relax};
 pub use repairing::repair;
+pub use testing::Bounded;
 pub use wholes::whole_of;

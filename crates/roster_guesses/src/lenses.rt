@@ -1,0 +1,130 @@
+//! Lenses that see no more than they have to.
+ghost use Rattle.std.specs.Prelude.{◌≡◌};
+ghost use Rattle.roster_model.specs.Goals.{IsGoal};
+
+use crate::testing::Bounded;
+use duty_calendar::Memory;
+use line_mixes::{Board, Care, Kept, Priced, Row, is_first, needed, number, price_afresh};
+use roster_model::{Goal, Lens, Problem};
+use std::alloc::Global;
+
+/// A lens under which the member has no line above the bound, by a ladder of this care that begins with the first lens.
+fn lens_again(
+    alloc: Global,
+    problem: &Problem,
+    kept: &mut Kept,
+    goal: &Goal,
+    row: &Row,
+    weights: &[i64],
+    member: usize,
+    over: i64,
+    care: Care,
+) -> Result<Option<Lens>, Memory>
+    requires goal { IsGoal problem.now goal.now }
+{
+    let priced = price_afresh(alloc, problem, kept, member, goal, row, weights, over, care)?;
+    match priced {
+        Priced::Nothing(lens) => Ok(Some(lens)),
+        Priced::Line(_, _) | Priced::Unknown => Ok(None),
+    }
+}
+
+/// A lens that sees less than this one, and by which the member has no line above the bound either: one that looks at
+/// pairings one by one, if it can be.
+fn plainer_lens(
+    alloc: Global,
+    problem: &Problem,
+    kept: &mut Kept,
+    goal: &Goal,
+    row: &Row,
+    weights: &[i64],
+    member: usize,
+    over: i64,
+    lens: &Lens,
+) -> Result<Option<Lens>, Memory>
+    requires goal { IsGoal problem.now goal.now }
+{
+    if is_first(lens) && !lens.whole {
+        return Ok(None);
+    }
+    let care = Care::Plain;
+    let plain = lens_again(alloc, problem, kept, goal, row, weights, member, over, care)?;
+    if plain.is_some() || is_first(lens) || !lens.whole {
+        return Ok(plain);
+    }
+    let care = Care::Fine;
+    lens_again(alloc, problem, kept, goal, row, weights, member, over, care)
+}
+
+/// The lens of a member without a line at the node, or one that sees less.
+pub fn plainer_without_line(
+    alloc: Global,
+    problem: &Problem,
+    kept: &mut Kept,
+    goal: &Goal,
+    board: &Board,
+    member: usize,
+    lens: Lens,
+) -> Result<Lens, Memory>
+    requires goal { IsGoal problem.now goal.now }
+{
+    if !lens.whole {
+        return Ok(lens);
+    }
+    let weights = vec![in alloc; 0i64; problem.base.pairings.len()]?;
+    let row = board.row(member);
+    let plainer = plainer_lens(
+        alloc, problem, kept, goal, &row, &weights, member, -1, &lens,
+    )?;
+    match plainer {
+        Some(plainer) => Ok(plainer),
+        None => Ok(lens),
+    }
+}
+
+/// How much more each member may weigh than this, so that all weigh less than the needs.
+fn spare_of(problem: &Problem, overs: &[i64], weights: &[i64]) -> i64 {
+    let mut spare = needed(problem, weights).wrapping_sub(1);
+    for over in overs {
+        spare = spare.wrapping_sub(*over);
+    }
+    let members = i64::from(number(overs.len()));
+    spare.checked_div(members).unwrap_or(0).max(0)
+}
+
+/// The leaf with lenses that see no more than they have to.
+pub fn plainer(
+    alloc: Global,
+    problem: &Problem,
+    kept: &mut Kept,
+    goal: &Goal,
+    board: &Board,
+    leaf: Bounded,
+) -> Result<Bounded, Memory>
+    requires goal { IsGoal problem.now goal.now }
+{
+    let mut leaf = leaf;
+    let spare = spare_of(problem, &leaf.overs, &leaf.weights);
+    for member in 0..problem.base.members.len() {
+        let Some(lens) = leaf.lenses.as_slice().get(member) else {
+            continue;
+        };
+        let over = leaf
+            .overs
+            .get(member)
+            .copied()
+            .unwrap_or(0)
+            .wrapping_add(spare);
+        let row = board.row(member);
+        let weights = &leaf.weights;
+        let plainer = plainer_lens(
+            alloc, problem, kept, goal, &row, weights, member, over, lens,
+        )?;
+        if let Some(plainer) = plainer {
+            if member < leaf.lenses.len() {
+                *leaf.lenses.at_mut(member) = plainer;
+            }
+        }
+    }
+    Ok(leaf)
+}
