@@ -3,8 +3,10 @@ use Rattle.std.proofs.Common.{◌≡◌, ℕ, ◌+◌, ◌<◌, List, [], ◌∷
 use Rattle.std.proofs.lemmas.List.{take_more, append-nil}
 use Rattle.std.proofs.lemmas.Grind.{flat_map-append}
 use Rattle.command_words.specs.declared.command.Sizes.{Sizes}
+use Rattle.plan_commands.specs.declared.open_stop.OpenRow.{OpenRow}
 use Rattle.answer_texts.specs.Lines.{numbers}
 use Rattle.answer_texts.specs.MakeTexts.{made_line}
+use Rattle.answer_texts.specs.OpenTexts.{row_line, spaced}
 use Rattle.answer_texts.specs.TradeTexts.{verdict_line, verdict_lines}
 use Rattle.trade_desk.specs.declared.refusal.TradeVerdict.{TradeVerdict}
 use Rattle.trade_desk.specs.declared.refusal.TradeVerdict.TheVariants.{Accepted}
@@ -52,3 +54,17 @@ verdicts_more out row list i default whole lt e so_far =
     ∙ append_assoc out (verdict_line (i + 1) v) (verdict_lines ((i + 1) + 1) (drop (i + 1) list))
     ∙ ap (λ (vs : List TradeVerdict). out ++ verdict_lines (i + 1) vs) (sym cons)
     ∙ so_far
+
+-- the five pieces of the line of a pairing that vacant lines have
+pub row_whole : (row : OpenRow) (count : ℕ) (pairing : List ℕ) (members : List (List ℕ)) (none a b c d e : List ℕ) → pairing ≡ row.pairing → count ≡ row.count
+    → members ≡ row.members → none ≡ [] → a ≡ none ++ codes "open " → b ≡ a ++ pairing → c ≡ b ++ numbers (count ∷ [])
+    → d ≡ c ++ spaced members → e ≡ d ++ codes "\n" → e ≡ row_line row
+row_whole row count pairing members none a b c d e p n m start is_a is_b is_c is_d is_e =
+    let to_b : b ≡ codes "open " ++ row.pairing =
+    is_b ∙ ap (λ (t : List ℕ). t ++ pairing) (is_a ∙ ap (λ (t : List ℕ). t ++ codes "open ") start) ∙ ap (λ (t : List ℕ). codes "open " ++ t) p in
+    let to_c : c ≡ (codes "open " ++ row.pairing) ++ numbers (row.count ∷ []) =
+    is_c ∙ ap (λ (t : List ℕ). t ++ numbers (count ∷ [])) to_b ∙ ap (λ (k : ℕ). (codes "open " ++ row.pairing) ++ numbers (k ∷ [])) n in
+    let to_d : d ≡ ((codes "open " ++ row.pairing) ++ numbers (row.count ∷ [])) ++ spaced row.members =
+    is_d ∙ ap (λ (t : List ℕ). t ++ spaced members) to_c
+    ∙ ap (λ (names : List (List ℕ)). ((codes "open " ++ row.pairing) ++ numbers (row.count ∷ [])) ++ spaced names) m in
+    is_e ∙ ap (λ (t : List ℕ). t ++ codes "\n") to_d

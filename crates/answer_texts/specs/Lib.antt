@@ -11,3 +11,5 @@ pub mod MigrateTexts
 pub mod TradeTexts
 pub mod CalendarTexts
 pub mod WhatIfTexts
+pub mod OpenTexts
+pub mod OpenCheckTexts

@@ -97,56 +97,43 @@ fn put_item_fault(out: &mut List<u8>, why: ItemFault) -> Result<(), Memory>
     }
 }
 
-/// The line of an item's fault.
-fn item_line(alloc: Global, search: u32, at: u32, why: ItemFault) -> Result<List<u8>, Memory>
-    ensures value { IfOk result (λ t. t ≡ line
-        (codes "no" ++ numbers (4 ∷ (search + 1) ∷ (at + 1) ∷ []) ++ item_text why)) }
+/// Appends the judge's first failing test.
+pub(crate) fn put_no(out: &mut List<u8>, why: No) -> Result<(), Memory>
+    ensures whole { OnOk result (out.new ≡ out.old ++ no_text why) }
 {
-    let mut out = List::new(alloc);
-    put_bytes(&mut out, b"no")?;
-    put_numbers(&mut out, &[4, u64::from(search) + 1, u64::from(at) + 1])?;
-    put_item_fault(&mut out, why)?;
-    put_bytes(&mut out, b"\n")?;
-    Ok(out)
-}
-
-/// The line of an illegal line.
-fn member_line(alloc: Global, member: u32, why: Illegal) -> Result<List<u8>, Memory>
-    ensures value { IfOk result (λ t. t ≡ line_of (codes "no")
-        (1 ∷ (member + 1) ∷ illegal_numbers why)) }
-{
-    let [code, place] = illegal_numbers(why);
-    numbered(alloc, b"no", &[1, u64::from(member) + 1, code, place])
+    match why {
+        No::NoMemory => put_numbers(out, &[0]),
+        No::Member(member, illegal) => {
+            let [code, place] = illegal_numbers(illegal);
+            put_numbers(out, &[1, u64::from(member) + 1, code, place])
+        }
+        No::Cover(pairing, count) => {
+            put_numbers(out, &[2, u64::from(pairing) + 1, u64::from(count)])
+        }
+        No::Amount(found) => put_numbers(out, &[3, u64::from(found)]),
+        No::Item(search, at, fault) => {
+            put_numbers(out, &[4, u64::from(search) + 1, u64::from(at) + 1])?;
+            put_item_fault(out, fault)
+        }
+        No::Left(search) => put_numbers(out, &[5, u64::from(search) + 1]),
+        No::Reason(member, bid) => {
+            put_numbers(out, &[6, u64::from(member) + 1, u64::from(bid) + 1])
+        }
+        No::Shown(member, bid) => {
+            put_numbers(out, &[7, u64::from(member) + 1, u64::from(bid) + 1])
+        }
+    }
 }
 
 /// The line of the judge's first failing test.
 pub(crate) fn no_line(alloc: Global, why: No) -> Result<List<u8>, Memory>
     ensures value { IfOk result (λ t. t ≡ line (codes "no" ++ no_text why)) }
 {
-    match why {
-        No::NoMemory => numbered(alloc, b"no", &[0]),
-        No::Member(member, illegal) => member_line(alloc, member, illegal),
-        No::Cover(pairing, count) => {
-            numbered(alloc, b"no", &[2, u64::from(pairing) + 1, u64::from(count)])
-        }
-        No::Amount(found) => numbered(alloc, b"no", &[3, u64::from(found)]),
-        No::Item(search, at, fault) => item_line(alloc, search, at, fault),
-        No::Left(search) => numbered(alloc, b"no", &[5, u64::from(search) + 1]),
-        No::Reason(member, bid) => {
-            numbered(
-                alloc,
-                b"no",
-                &[6, u64::from(member) + 1, u64::from(bid) + 1],
-            )
-        }
-        No::Shown(member, bid) => {
-            numbered(
-                alloc,
-                b"no",
-                &[7, u64::from(member) + 1, u64::from(bid) + 1],
-            )
-        }
-    }
+    let mut out = List::new(alloc);
+    put_bytes(&mut out, b"no")?;
+    put_no(&mut out, why)?;
+    put_bytes(&mut out, b"\n")?;
+    Ok(out)
 }
 
 /// The line of a no.

@@ -18,7 +18,7 @@ pub record IsPlain (word : Text) : Type 0 where
   pub flag : strip_byte 45 word ≡ None
 
 abbrev pub no_texts : Texts
-no_texts = record { nodes = None; member = None; number = None; members = None; pairings = None }
+no_texts = record { nodes = None; member = None; number = None; members = None; pairings = None; lines = None }
 
 pub check_form : Reads (codes "check" ∷ []) no_texts
 unfolding clap_on_literals
@@ -53,7 +53,7 @@ unfolding clap_on_literals
 calendar_form name p = record { taken = simp (p.trail, p.flag) refl; found = simp (p.trail, p.flag) refl }
 
 abbrev pub sized : Text → Text → Text → Option Text → Texts
-sized a b c option = record { nodes = option; member = None; number = Some a; members = Some b; pairings = Some c }
+sized a b c option = record { nodes = option; member = None; number = Some a; members = Some b; pairings = Some c; lines = None }
 
 pub make_form : (a b c : Text) → IsPlain a → IsPlain b → IsPlain c → Reads (codes "make" ∷ a ∷ b ∷ c ∷ []) (sized a b c None)
 unfolding clap_on_literals
@@ -153,3 +153,28 @@ whatif_forms = record {
   one_first = λ a n p. record { taken = simp (p.trail, p.flag) refl; found = simp (p.trail, p.flag) refl };
   one_last = λ a n p. record { taken = simp (p.trail, p.flag) refl; found = simp (p.trail, p.flag) refl };
 }
+
+-- ---- the commands with a number of vacant lines
+
+abbrev pub lining : Text → Option Text → Texts
+lining number option = record no_texts { nodes = option; lines = Some number }
+
+pub open_forms : ReadsOne (codes "open") lining
+unfolding clap_on_literals
+open_forms = record {
+  alone = λ a p. record { taken = simp (p.trail, p.flag) refl; found = simp (p.trail, p.flag) refl };
+  two_first = λ a n p s. record {
+    taken = simp (s.trail, s.flag) (simp (p.trail, p.flag) refl);
+    found = simp (s.trail, s.flag) (simp (p.trail, p.flag) refl);
+  };
+  two_last = λ a n p s. record {
+    taken = simp (p.trail, p.flag) (simp (s.trail, s.flag) refl);
+    found = simp (p.trail, p.flag) (simp (s.trail, s.flag) refl);
+  };
+  one_first = λ a n p. record { taken = simp (p.trail, p.flag) refl; found = simp (p.trail, p.flag) refl };
+  one_last = λ a n p. record { taken = simp (p.trail, p.flag) refl; found = simp (p.trail, p.flag) refl };
+}
+
+pub opencheck_form : (number : Text) → IsPlain number → Reads (codes "opencheck" ∷ number ∷ []) (lining number None)
+unfolding clap_on_literals
+opencheck_form number p = record { taken = simp (p.trail, p.flag) refl; found = simp (p.trail, p.flag) refl }

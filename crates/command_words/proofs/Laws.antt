@@ -14,14 +14,14 @@ use Rattle.field_text.specs.declared.field_fault.FieldFault.TheVariants.{Range}
 use Rattle.field_text.specs.Form.{fault_from}
 use Rattle.field_text.specs.declared.field_fault.FieldFault.{FieldFault}
 use Rattle.field_text.proofs.Numbers.{number-other}
-use Rattle.command_words.specs.Numbers.{within, number_in, if_read, long_in, long_field, nodes_in, sizes_in}
-use Rattle.command_words.specs.Words.{Parts, is_argument, is_joined, apart, behind, option_out, alone_in, name_in, award_in, show_in, make_in, trial_in, calendar_in, whatif_in, command_in}
+use Rattle.command_words.specs.Numbers.{within, number_in, if_read, long_in, long_field, nodes_in, sizes_in, lines_in}
+use Rattle.command_words.specs.Words.{Parts, is_argument, is_joined, apart, behind, option_out, alone_in, name_in, award_in, show_in, make_in, trial_in, calendar_in, whatif_in, lines_of, open_in, opencheck_in, command_in}
 use Rattle.command_words.specs.Spelling.{Stands, Spells}
 use Rattle.command_words.specs.Spelling.Stands.{alone, two_words, one_word}
-use Rattle.command_words.specs.Spelling.Spells.{check, award, show, make, trial, migrate, trade, calendar, whatif}
+use Rattle.command_words.specs.Spelling.Spells.{check, award, show, make, trial, migrate, trade, calendar, whatif, opening, opencheck}
 use Rattle.command_words.specs.declared.command.Sizes.{Sizes}
 use Rattle.command_words.specs.declared.command.Command.{Command}
-use Rattle.command_words.specs.declared.command.Command.TheVariants.{Check, Award, Show, Make, Trial, Migrate, Trade, Calendar, WhatIf}
+use Rattle.command_words.specs.declared.command.Command.TheVariants.{Check, Award, Show, Make, Trial, Migrate, Trade, Calendar, WhatIf, Open, OpenCheck}
 
 -- ---- what a read number tells of its word
 
@@ -159,6 +159,12 @@ spelt_read _ _ trade = refl
 spelt_read _ _ (calendar name plain) = rw plain refl
 spelt_read _ _ (whatif rest name option nodes stands plain allowed) =
     ap (λ (p : Parts). whatif_in p.arguments p.nodes) (stands_out (name ∷ []) option rest (plain, tt) stands) ∙ rw (plain, allowed) refl
+spelt_read _ _ (opening rest digits option lines nodes stands written allowed) =
+    let plain = number_argument 0 50 digits lines written in
+    ap (λ (p : Parts). open_in p.arguments p.nodes) (stands_out (digits ∷ []) option rest (plain, tt) stands)
+    ∙ ap (option_and_then (λ (v : ℕ). option_map (λ (n : ℕ). Open v n) (nodes_in option))) written
+    ∙ ap (option_map (λ (n : ℕ). Open lines n)) allowed
+spelt_read _ _ (opencheck digits lines written) = ap (option_map (λ (v : ℕ). OpenCheck v)) written
 
 -- ---- a command that is read is spelt
 
@@ -231,6 +237,28 @@ whatif_spelt arguments option rest command s h =
     let p = name_alone arguments name e in
     subst (Spells (codes "whatif" ∷ rest)) m.2 (whatif rest name option m.0 (subst (λ (a : List (List ℕ)). Stands a option rest) p.0 s) p.1 m.1))
 
+-- the one word behind the first is a number of vacant lines
+lines_alone : (rest : List (List ℕ)) (lines : ℕ) → lines_of rest ≡ Some lines → (digits : List ℕ) × (rest ≡ digits ∷ []) × (lines_in digits ≡ Some lines)
+lines_alone [] lines h = absurd cc
+lines_alone (digits ∷ []) lines h = (digits, refl, h)
+lines_alone (digits ∷ (w ∷ ws)) lines h = absurd cc
+
+pub open_spelt : (arguments : List (List ℕ)) (option : Option (List ℕ)) (rest : List (List ℕ)) (command : Command) → Stands arguments option rest
+    → open_in arguments option ≡ Some command → Spells (codes "open" ∷ rest) command
+open_spelt arguments option rest command s h =
+    option_and_then_some (λ (lines : ℕ). option_map (λ (n : ℕ). Open lines n) (nodes_in option)) (lines_of arguments) command h
+    (λ lines e k.
+    let m = mapped (λ (n : ℕ). Open lines n) (nodes_in option) command k in
+    let p = lines_alone arguments lines e in
+    subst (Spells (codes "open" ∷ rest)) m.2 (opening rest p.0 option lines m.0 (subst (λ (a : List (List ℕ)). Stands a option rest) p.1 s) p.2 m.1))
+
+pub opencheck_spelt : (rest : List (List ℕ)) (command : Command) → opencheck_in rest ≡ Some command → Spells (codes "opencheck" ∷ rest) command
+opencheck_spelt rest command h =
+    let m = mapped (λ (v : ℕ). OpenCheck v) (lines_of rest) command h in
+    let p = lines_alone rest m.0 m.1 in
+    subst (Spells (codes "opencheck" ∷ rest)) m.2
+    (subst (λ (w : List (List ℕ)). Spells (codes "opencheck" ∷ w) (OpenCheck m.0)) (sym p.1) (opencheck p.0 m.0 p.2))
+
 is_word : (word text : List ℕ) → bytes_eq word text ≡ true → text ≡ word
 is_word word text h = sym ((bytes_eq-Decides word text).0 h)
 
@@ -248,24 +276,27 @@ by_text text word rest command here later f g = go (bytes_eq word text) refl
     go false e h = g h
 
 -- each of the readings has its spelling
-pub by_word : (word : List ℕ) (rest : List (List ℕ)) (command : Command) (c a s m t g d k w : Option Command)
+pub by_word : (word : List ℕ) (rest : List (List ℕ)) (command : Command) (c a s m t g d k w o q : Option Command)
     → (c ≡ Some command → Spells (codes "check" ∷ rest) command) → (a ≡ Some command → Spells (codes "award" ∷ rest) command)
     → (s ≡ Some command → Spells (codes "show" ∷ rest) command) → (m ≡ Some command → Spells (codes "make" ∷ rest) command)
     → (t ≡ Some command → Spells (codes "trial" ∷ rest) command) → (g ≡ Some command → Spells (codes "migrate" ∷ rest) command)
     → (d ≡ Some command → Spells (codes "trade" ∷ rest) command) → (k ≡ Some command → Spells (codes "calendar" ∷ rest) command)
-    → (w ≡ Some command → Spells (codes "whatif" ∷ rest) command)
+    → (w ≡ Some command → Spells (codes "whatif" ∷ rest) command) → (o ≡ Some command → Spells (codes "open" ∷ rest) command)
+    → (q ≡ Some command → Spells (codes "opencheck" ∷ rest) command)
     → (if bytes_eq word (codes "check") then c else (if bytes_eq word (codes "award") then a
     else (if bytes_eq word (codes "show") then s else (if bytes_eq word (codes "make") then m
     else (if bytes_eq word (codes "trial") then t else (if bytes_eq word (codes "migrate") then g
     else (if bytes_eq word (codes "trade") then d else (if bytes_eq word (codes "calendar") then k
-    else (if bytes_eq word (codes "whatif") then w else None))))))))) ≡ Some command
+    else (if bytes_eq word (codes "whatif") then w else (if bytes_eq word (codes "open") then o
+    else (if bytes_eq word (codes "opencheck") then q else None))))))))))) ≡ Some command
     → Spells (word ∷ rest) command
-by_word word rest command c a s m t g d k w fc fa fs fm ft fg fd fk fw =
+by_word word rest command c a s m t g d k w o q fc fa fs fm ft fg fd fk fw fo fq =
     by_text (codes "check") word rest command c _ fc (by_text (codes "award") word rest command a _ fa
     (by_text (codes "show") word rest command s _ fs (by_text (codes "make") word rest command m _ fm
     (by_text (codes "trial") word rest command t _ ft (by_text (codes "migrate") word rest command g _ fg
     (by_text (codes "trade") word rest command d _ fd (by_text (codes "calendar") word rest command k _ fk
-    (by_text (codes "whatif") word rest command w None fw (λ h. absurd cc)))))))))
+    (by_text (codes "whatif") word rest command w _ fw (by_text (codes "open") word rest command o _ fo
+    (by_text (codes "opencheck") word rest command q None fq (λ h. absurd cc)))))))))))
 
 pub read_spelt : (words : List (List ℕ)) (command : Command) → command_in words ≡ Some command → Spells words command
 read_spelt [] command h = absurd cc
@@ -274,8 +305,9 @@ read_spelt (word ∷ rest) command h =
     let option = (option_out rest).nodes in
     by_word word rest command (alone_in Check rest) (award_in arguments option) (show_in rest) (make_in rest)
     (trial_in arguments option) (alone_in Migrate rest) (alone_in Trade rest) (calendar_in rest)
-    (whatif_in arguments option)
+    (whatif_in arguments option) (open_in arguments option) (opencheck_in rest)
     (alone_spelt (codes "check") Check check rest command) (award_spelt arguments option rest command (out_stands rest))
     (show_spelt rest command) (make_spelt rest command) (trial_spelt arguments option rest command (out_stands rest))
     (alone_spelt (codes "migrate") Migrate migrate rest command) (alone_spelt (codes "trade") Trade trade rest command) (calendar_spelt rest command)
-    (whatif_spelt arguments option rest command (out_stands rest)) h
+    (whatif_spelt arguments option rest command (out_stands rest)) (open_spelt arguments option rest command (out_stands rest))
+    (opencheck_spelt rest command) h

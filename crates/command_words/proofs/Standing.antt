@@ -7,16 +7,16 @@ use Rattle.std.proofs.lemmas.Option.{option_and_then_some}
 use Rattle.std.proofs.lemmas.Slice.Eq.{bytes_eq-Decides}
 use Rattle.std.specs.Str.{bytes_eq}
 use Rattle.clap.specs.Walk.{Text}
-use Rattle.command_words.specs.Numbers.{nodes_in, sizes_in}
+use Rattle.command_words.specs.Numbers.{nodes_in, sizes_in, lines_in}
 use Rattle.command_words.specs.Words.{is_argument, alone_in}
 use Rattle.command_words.specs.Spelling.{Stands, Spells}
 use Rattle.command_words.specs.Spelling.Stands.{alone, two_words, one_word}
-use Rattle.command_words.specs.Spelling.Spells.{check, award, show, make, trial, migrate, trade, calendar, whatif}
-use Rattle.command_words.specs.Reading.{Texts, joins, same_words, begins_apart, begins, heads, has_option, stands, award_read, one_read, name_read, sizes_read, make_read, trial_read, whatif_read, named_read}
+use Rattle.command_words.specs.Spelling.Spells.{check, award, show, make, trial, migrate, trade, calendar, whatif, opening, opencheck}
+use Rattle.command_words.specs.Reading.{Texts, joins, same_words, begins_apart, begins, heads, has_option, stands, award_read, one_read, name_read, sizes_read, make_read, trial_read, whatif_read, lines_read, open_read, opencheck_read, named_read}
 use Rattle.command_words.proofs.Laws.{by_word, alone_spelt, mapped, moved}
 use Rattle.command_words.specs.declared.command.Sizes.{Sizes}
 use Rattle.command_words.specs.declared.command.Command.{Command}
-use Rattle.command_words.specs.declared.command.Command.TheVariants.{Check, Award, Show, Make, Trial, Migrate, Trade, Calendar, WhatIf}
+use Rattle.command_words.specs.declared.command.Command.TheVariants.{Check, Award, Show, Make, Trial, Migrate, Trade, Calendar, WhatIf, Open, OpenCheck}
 
 -- ---- words that pass the test stand so
 
@@ -232,13 +232,45 @@ whatif_given words option member command h =
     let g = one_given words option member name e in
     subst (Spells (codes "whatif" ∷ words)) m.2 (whatif words name option m.0 g.standing g.plain m.1))
 
+-- the words are a number of vacant lines, with the option where there is one
+record LinesGiven (words : List Text) (option : Option Text) (lines : ℕ) : Type 0 where
+  number : Text
+  standing : Stands (number ∷ []) option words
+  written : lines_in number ≡ Some lines
+
+lines_given : (words : List Text) (option argument : Option Text) (lines : ℕ) → lines_read words option argument ≡ Some lines → LinesGiven words option lines
+lines_given words option argument lines h =
+    option_and_then_some lines_in (one_read words option argument) lines h
+    (λ number e k.
+    let g = one_given words option argument number e in
+    let all : LinesGiven words option lines = record { number = number; standing = g.standing; written = k } in
+    all)
+
+open_given : (words : List Text) (option argument : Option Text) (command : Command) → open_read words option argument ≡ Some command
+    → Spells (codes "open" ∷ words) command
+open_given words option argument command h =
+    option_and_then_some (λ (v : ℕ). option_map (λ (n : ℕ). Open v n) (nodes_in option)) (lines_read words option argument) command h
+    (λ v e k.
+    let m = mapped (λ (n : ℕ). Open v n) (nodes_in option) command k in
+    let g = lines_given words option argument v e in
+    subst (Spells (codes "open" ∷ words)) m.2 (opening words g.number option v m.0 g.standing g.written m.1))
+
+opencheck_given : (words : List Text) (argument : Option Text) (command : Command) → opencheck_read words argument ≡ Some command
+    → Spells (codes "opencheck" ∷ words) command
+opencheck_given words argument command h =
+    let m = mapped (λ (v : ℕ). OpenCheck v) (lines_read words None argument) command h in
+    let g = lines_given words None argument m.0 m.1 in
+    subst (Spells (codes "opencheck" ∷ words)) m.2
+    (subst (λ (w : List Text). Spells (codes "opencheck" ∷ w) (OpenCheck m.0)) (sym (no_option (g.number ∷ []) None words g.standing refl)) (opencheck g.number m.0 g.written))
+
 pub given_spelt : (word : Text) (rest : List Text) (t : Texts) (command : Command) → named_read word rest t ≡ Some command → Spells (word ∷ rest) command
 given_spelt word rest t command h =
     by_word word rest command (alone_in Check rest) (award_read rest t.nodes) (option_map (λ (n : Text). Show n) (name_read rest t.member))
     (make_read rest t.number t.members t.pairings) (trial_read rest t.nodes t.number t.members t.pairings)
     (alone_in Migrate rest) (alone_in Trade rest) (option_map (λ (n : Text). Calendar n) (name_read rest t.member))
-    (whatif_read rest t.nodes t.member)
+    (whatif_read rest t.nodes t.member) (open_read rest t.nodes t.lines) (opencheck_read rest t.lines)
     (alone_spelt (codes "check") Check check rest command) (award_given rest t.nodes command) (show_given rest t.member command)
     (make_given rest t.number t.members t.pairings command) (trial_given rest t.nodes t.number t.members t.pairings command)
     (alone_spelt (codes "migrate") Migrate migrate rest command) (alone_spelt (codes "trade") Trade trade rest command)
-    (calendar_given rest t.member command) (whatif_given rest t.nodes t.member command) h
+    (calendar_given rest t.member command) (whatif_given rest t.nodes t.member command)
+    (open_given rest t.nodes t.lines command) (opencheck_given rest t.lines command) h

@@ -14,20 +14,20 @@ use Rattle.clap.proofs.WalkLemmas.{first_value-rows}
 use Rattle.command_words.specs.Found.{texts_found}
 use Rattle.field_text.specs.Fields.{number_field}
 use Rattle.field_text.specs.declared.field_fault.FieldFault.{FieldFault}
-use Rattle.command_words.specs.Numbers.{within, number_in, long_in, nodes_in, sizes_in, AreNodes, AreSizes}
+use Rattle.command_words.specs.Numbers.{within, number_in, long_in, nodes_in, sizes_in, lines_in, AreNodes, AreSizes}
 use Rattle.command_words.specs.Words.{is_argument, command_in, HasLimits}
 use Rattle.command_words.specs.Spelling.{Stands, Spells, IsSpelt}
 use Rattle.command_words.specs.Spelling.Stands.{alone, two_words, one_word}
-use Rattle.command_words.specs.Spelling.Spells.{check, award, show, make, trial, migrate, trade, calendar, whatif}
-use Rattle.command_words.specs.Reading.{Texts, commands, texts_of, texts_in, named_read, sizes_read}
+use Rattle.command_words.specs.Spelling.Spells.{check, award, show, make, trial, migrate, trade, calendar, whatif, opening, opencheck}
+use Rattle.command_words.specs.Reading.{Texts, commands, texts_of, texts_in, named_read, sizes_read, lines_read}
 use Rattle.command_words.proofs.Laws.{spelt_read, read_spelt, mapped, number_argument, sizes_plain}
 use Rattle.command_words.proofs.Standing.{given_spelt, stands_is, bytes_same}
 use Rattle.command_words.proofs.Steps.{now_of}
 use Rattle.command_words.proofs.Forms as forms
-use Rattle.command_words.proofs.Forms.{Reads, ReadsOne, IsPlain, no_texts, sized, asking}
+use Rattle.command_words.proofs.Forms.{Reads, ReadsOne, IsPlain, no_texts, sized, asking, lining}
 use Rattle.command_words.specs.declared.command.Sizes.{Sizes}
 use Rattle.command_words.specs.declared.command.Command.{Command}
-use Rattle.command_words.specs.declared.command.Command.TheVariants.{Award, Make, Trial, WhatIf}
+use Rattle.command_words.specs.declared.command.Command.TheVariants.{Award, Make, Trial, WhatIf, Open, OpenCheck}
 
 no_dash : (b : ℕ) → not (b == 45) ≡ true → (b == 45) ≡ false
 no_dash b h = grind (arith, nat_tests)
@@ -184,6 +184,10 @@ sizes_stand : (rest : List Text) (option : Option Text) (a b c : Text) → Stand
     → sizes_read rest option (Some a) (Some b) (Some c) ≡ sizes_in a b c
 sizes_stand rest option a b c s = rw (stands_is (a ∷ b ∷ c ∷ []) option rest s) refl
 
+lines_stand : (rest : List Text) (option : Option Text) (number : Text) → is_argument number ≡ true → Stands (number ∷ []) option rest
+    → lines_read rest option (Some number) ≡ lines_in number
+lines_stand rest option number plain s = rw (plain, stands_is (number ∷ []) option rest s) refl
+
 pub understood : (words : List Text) (command : Command) → Spells words command → Understood words command
 understood _ _ check = record { texts = no_texts; reads = forms.check_form; means = refl }
 understood _ _ (award rest option nodes s h) = record {
@@ -218,6 +222,17 @@ understood _ _ (whatif rest name option nodes s plain h) = record {
   texts = asking name option;
   reads = one_reads (codes "whatif") asking forms.whatif_forms name option rest nodes (plain_word name plain) s h;
   means = rw (plain, stands_is (name ∷ []) option rest s) (ap (option_map (λ (n : ℕ). WhatIf name n)) h);
+}
+understood _ _ (opening rest number option lines nodes s h k) = let plain = number_argument 0 50 number lines h in record {
+  texts = lining number option;
+  reads = one_reads (codes "open") lining forms.open_forms number option rest nodes (plain_word number plain) s k;
+  means = ap (option_and_then (λ (v : ℕ). option_map (λ (n : ℕ). Open v n) (nodes_in option))) (lines_stand rest option number plain s ∙ h)
+      ∙ ap (option_map (λ (n : ℕ). Open lines n)) k;
+}
+understood _ _ (opencheck number lines h) = let plain = number_argument 0 50 number lines h in record {
+  texts = lining number None;
+  reads = forms.opencheck_form number (plain_word number plain);
+  means = ap (option_map (λ (v : ℕ). OpenCheck v)) (lines_stand (number ∷ []) None number plain (alone refl refl) ∙ h);
 }
 
 -- ---- the three ends of the reader
@@ -281,6 +296,7 @@ found_same m =
       first_value-rows (found_of m) (codes "number"),
       first_value-rows (found_of m) (codes "members"),
       first_value-rows (found_of m) (codes "pairings"),
+      first_value-rows (found_of m) (codes "lines"),
     ) refl
 
 pub end_found : (texts words : List Text) (name head : Text) (rest : List Text) (rows : List Row) (read : Option Command)
@@ -342,6 +358,9 @@ limits_of _ _ migrate = tt
 limits_of _ _ trade = tt
 limits_of _ _ (calendar name plain) = tt
 limits_of _ _ (whatif rest name option nodes s plain h) = nodes_limits option nodes h
+limits_of _ _ (opening rest number option lines nodes s h k) =
+    ((within_limits 0 50 (number_field number) lines h).1, nodes_limits option nodes k)
+limits_of _ _ (opencheck number lines h) = (within_limits 0 50 (number_field number) lines h).1
 
 pub read_has_limits : (words : List Text) (read : Option Command) → read ≡ command_in words → IfSome read HasLimits
 read_has_limits words None e = tt

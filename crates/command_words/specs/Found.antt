@@ -13,6 +13,7 @@ texts_found m = record {
   number = first_value (found_of m) (codes "number");
   members = first_value (found_of m) (codes "members");
   pairings = first_value (found_of m) (codes "pairings");
+  lines = first_value (found_of m) (codes "lines");
 }
 
 -- the texts of words, and that of an option

@@ -39,6 +39,10 @@ sizes_in number members pairings =
     option_and_then (λ n. option_and_then (λ m. option_map (λ p. record { number = n; members = m; pairings = p })
     (number_in 0 600 pairings)) (number_in 1 200 members)) (long_in number)
 
+-- the number of vacant lines that a word writes: 0 to 50
+abbrev pub lines_in : List ℕ → Option ℕ
+lines_in word = number_in 0 50 word
+
 pub record AreNodes (nodes : ℕ) : Type 0 where
   pub some : 1 ≤ nodes
   pub few : nodes ≤ 20000

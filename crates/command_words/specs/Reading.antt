@@ -1,12 +1,12 @@
 -- What the parts of the reader answer, step by step. No public contract cites this.
-use Rattle.std.specs.Prelude.{Bool, true, false, ◌&&◌, ◌||◌, List, [], ◌∷◌, take, drop, codes, Option, Some, None, if◌then◌else◌, option_and_then, option_map}
+use Rattle.std.specs.Prelude.{ℕ, Bool, true, false, ◌&&◌, ◌||◌, List, [], ◌∷◌, take, drop, codes, Option, Some, None, if◌then◌else◌, option_and_then, option_map}
 use Rattle.std.specs.Str.{bytes_eq}
 use Rattle.clap.specs.Words.{App, Row, Rule, Text, first_of, new_app, new_rule, with_rule, with_subcommand, subcommand_of}
-use Rattle.command_words.specs.Numbers.{nodes_in, sizes_in}
+use Rattle.command_words.specs.Numbers.{nodes_in, sizes_in, lines_in}
 use Rattle.command_words.specs.Words.{is_argument, alone_in}
 use Rattle.command_words.specs.declared.command.Sizes.{Sizes}
 use Rattle.command_words.specs.declared.command.Command.{Command}
-use Rattle.command_words.specs.declared.command.Command.TheVariants.{Check, Award, Show, Make, Trial, Migrate, Trade, Calendar, WhatIf}
+use Rattle.command_words.specs.declared.command.Command.TheVariants.{Check, Award, Show, Make, Trial, Migrate, Trade, Calendar, WhatIf, Open, OpenCheck}
 
 -- ---- what clap is told
 
@@ -42,7 +42,10 @@ desk_commands = with_subcommand (with_subcommand (with_subcommand made_commands
     (with_rule (new_app (codes "calendar")) (needed_rule (codes "member"))).top
 
 abbrev pub commands : App
-commands = with_subcommand desk_commands (with_rule (one_app (codes "whatif") (codes "member")) nodes_rule).top
+commands = with_subcommand (with_subcommand (with_subcommand desk_commands
+    (with_rule (one_app (codes "whatif") (codes "member")) nodes_rule).top)
+    (with_rule (one_app (codes "open") (codes "lines")) nodes_rule).top)
+    (one_app (codes "opencheck") (codes "lines")).top
 
 -- ---- the test of words against what was read
 
@@ -108,6 +111,16 @@ abbrev pub whatif_read : List Text → Option Text → Option Text → Option Co
 whatif_read words option member = option_and_then (λ name. option_map (λ n. WhatIf name n) (nodes_in option))
     (one_read words option member)
 
+abbrev pub lines_read : List Text → Option Text → Option Text → Option ℕ
+lines_read words option lines = option_and_then lines_in (one_read words option lines)
+
+abbrev pub open_read : List Text → Option Text → Option Text → Option Command
+open_read words option lines =
+    option_and_then (λ v. option_map (λ n. Open v n) (nodes_in option)) (lines_read words option lines)
+
+abbrev pub opencheck_read : List Text → Option Text → Option Command
+opencheck_read words lines = option_map (λ v. OpenCheck v) (lines_read words None lines)
+
 -- what clap found of each argument
 pub record Texts : Type 0 where
   pub nodes : Option Text
@@ -115,6 +128,7 @@ pub record Texts : Type 0 where
   pub number : Option Text
   pub members : Option Text
   pub pairings : Option Text
+  pub lines : Option Text
 
 abbrev pub texts_in : List Row → Texts
 texts_in rows = record {
@@ -123,6 +137,7 @@ texts_in rows = record {
   number = first_of (codes "number") rows;
   members = first_of (codes "members") rows;
   pairings = first_of (codes "pairings") rows;
+  lines = first_of (codes "lines") rows;
 }
 
 abbrev pub named_read : Text → List Text → Texts → Option Command
@@ -136,7 +151,9 @@ named_read word rest t =
     else (if bytes_eq word (codes "trade") then alone_in Trade rest
     else (if bytes_eq word (codes "calendar") then option_map (λ n. Calendar n) (name_read rest t.member)
     else (if bytes_eq word (codes "whatif") then whatif_read rest t.nodes t.member
-    else None))))))))
+    else (if bytes_eq word (codes "open") then open_read rest t.nodes t.lines
+    else (if bytes_eq word (codes "opencheck") then opencheck_read rest t.lines
+    else None))))))))))
 
 -- the texts that clap reads of the words behind the program's name, where it goes to a command
 abbrev pub texts_of : List Text → Option Texts

@@ -1,10 +1,10 @@
 -- The words of each command, as a list of forms.
 use Rattle.std.specs.Prelude.{◌≡◌, ◌↔◌, ℕ, true, List, [], ◌∷◌, ◌++◌, codes, Option, Some, None}
-use Rattle.command_words.specs.Numbers.{nodes_in, sizes_in}
+use Rattle.command_words.specs.Numbers.{nodes_in, sizes_in, lines_in}
 use Rattle.command_words.specs.Words.{is_argument}
 use Rattle.command_words.specs.declared.command.Sizes.{Sizes}
 use Rattle.command_words.specs.declared.command.Command.{Command}
-use Rattle.command_words.specs.declared.command.Command.TheVariants.{Check, Award, Show, Make, Trial, Migrate, Trade, Calendar, WhatIf}
+use Rattle.command_words.specs.declared.command.Command.TheVariants.{Check, Award, Show, Make, Trial, Migrate, Trade, Calendar, WhatIf, Open, OpenCheck}
 
 -- the words are these arguments in order, with at most one option before, between or after them
 pub data Stands (arguments : List (List ℕ)) (nodes : Option (List ℕ)) (words : List (List ℕ)) : Type 0 where
@@ -31,6 +31,11 @@ pub data Spells : List (List ℕ) → Command → Type 0 where
   calendar : (name : List ℕ) → is_argument name ≡ true → Spells (codes "calendar" ∷ name ∷ []) (Calendar name)
   whatif : (rest : List (List ℕ)) (name : List ℕ) (option : Option (List ℕ)) (nodes : ℕ) → Stands (name ∷ []) option rest
       → is_argument name ≡ true → nodes_in option ≡ Some nodes → Spells (codes "whatif" ∷ rest) (WhatIf name nodes)
+  opening : (rest : List (List ℕ)) (number : List ℕ) (option : Option (List ℕ)) (lines nodes : ℕ)
+      → Stands (number ∷ []) option rest → lines_in number ≡ Some lines → nodes_in option ≡ Some nodes
+      → Spells (codes "open" ∷ rest) (Open lines nodes)
+  opencheck : (number : List ℕ) (lines : ℕ) → lines_in number ≡ Some lines
+      → Spells (codes "opencheck" ∷ number ∷ []) (OpenCheck lines)
 
 -- what is read is a command exactly where the words spell it
 abbrev pub IsSpelt : List (List ℕ) → Option Command → Type 0

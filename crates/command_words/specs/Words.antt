@@ -1,12 +1,12 @@
 -- The command that words are, as a function.
-use Rattle.std.specs.Prelude.{ℕ, Bool, false, not, ◌==◌, List, [], ◌∷◌, take, drop, codes, Option, Some, None, if◌then◌else◌}
+use Rattle.std.specs.Prelude.{ℕ, ◌≤◌, Bool, false, not, ◌==◌, List, [], ◌∷◌, take, drop, codes, Option, Some, None, if◌then◌else◌}
 use Rattle.std.specs.Option.{option_map}
 use Rattle.std.specs.Prelude.{option_and_then}
 use Rattle.std.specs.Str.{bytes_eq}
-use Rattle.command_words.specs.Numbers.{nodes_in, sizes_in, AreNodes, AreSizes}
+use Rattle.command_words.specs.Numbers.{nodes_in, sizes_in, lines_in, AreNodes, AreSizes}
 use Rattle.command_words.specs.declared.command.Sizes.{Sizes}
 use Rattle.command_words.specs.declared.command.Command.{Command}
-use Rattle.command_words.specs.declared.command.Command.TheVariants.{Check, Award, Show, Make, Trial, Migrate, Trade, Calendar, WhatIf}
+use Rattle.command_words.specs.declared.command.Command.TheVariants.{Check, Award, Show, Make, Trial, Migrate, Trade, Calendar, WhatIf, Open, OpenCheck}
 
 -- a word that may stand for a name: it is not empty, and no dash begins it
 abbrev pub is_argument : List ℕ → Bool
@@ -75,6 +75,19 @@ abbrev pub whatif_in : List (List ℕ) → Option (List ℕ) → Option Command
 whatif_in arguments nodes =
     option_and_then (λ name. option_map (λ n. WhatIf name n) (nodes_in nodes)) (name_in arguments)
 
+-- a number of vacant lines, and nothing behind it
+abbrev pub lines_of : List (List ℕ) → Option ℕ
+lines_of [] = None
+lines_of (number ∷ []) = lines_in number
+lines_of (number ∷ (word ∷ rest)) = None
+
+abbrev pub open_in : List (List ℕ) → Option (List ℕ) → Option Command
+open_in arguments nodes =
+    option_and_then (λ lines. option_map (λ n. Open lines n) (nodes_in nodes)) (lines_of arguments)
+
+abbrev pub opencheck_in : List (List ℕ) → Option Command
+opencheck_in arguments = option_map (λ lines. OpenCheck lines) (lines_of arguments)
+
 abbrev pub named : List ℕ → List (List ℕ) → Option Command
 named word rest =
     if bytes_eq word (codes "check") then alone_in Check rest
@@ -86,7 +99,9 @@ named word rest =
     else (if bytes_eq word (codes "trade") then alone_in Trade rest
     else (if bytes_eq word (codes "calendar") then calendar_in rest
     else (if bytes_eq word (codes "whatif") then whatif_in (option_out rest).arguments (option_out rest).nodes
-    else None))))))))
+    else (if bytes_eq word (codes "open") then open_in (option_out rest).arguments (option_out rest).nodes
+    else (if bytes_eq word (codes "opencheck") then opencheck_in rest
+    else None))))))))))
 
 -- the command that these words are, if they are one
 abbrev pub command_in : List (List ℕ) → Option Command
@@ -104,3 +119,5 @@ HasLimits Migrate = Unit {0}
 HasLimits Trade = Unit {0}
 HasLimits (Calendar name) = Unit {0}
 HasLimits (WhatIf name nodes) = AreNodes nodes
+HasLimits (Open lines nodes) = (lines ≤ 50) × AreNodes nodes
+HasLimits (OpenCheck lines) = lines ≤ 50

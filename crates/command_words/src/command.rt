@@ -4,7 +4,7 @@ ghost use Rattle.command_words.specs.Numbers.{nodes_in, sizes_in};
 ghost use Rattle.command_words.specs.declared.command.Command.TheVariants.{Show, Calendar};
 ghost use Rattle.command_words.specs.Words.{alone_in, command_in, HasLimits};
 ghost use Rattle.command_words.specs.Spelling.{IsSpelt};
-ghost use Rattle.command_words.specs.Reading.{award_read, one_read, name_read, sizes_read, make_read, trial_read, whatif_read, named_read};
+ghost use Rattle.command_words.specs.Reading.{award_read, one_read, name_read, sizes_read, make_read, trial_read, whatif_read, lines_read, open_read, opencheck_read, named_read};
 ghost use Rattle.command_words.specs.Found.{texts_found, words_of, option_word};
 
 use crate::grammar::parse;
@@ -16,6 +16,9 @@ use std::alloc::Global;
 
 /// The most nodes that an award may count, and as many as it may where the words do not say.
 const MOST_NODES: u32 = 20_000;
+
+/// The most vacant lines that may be asked for.
+const MOST_LINES: u32 = 50;
 
 /// How large a made month is.
 #[derive(Clone, Copy, Debug, PartialEq, Eq)]
@@ -50,6 +53,11 @@ pub enum Command {
     /// Award the month once more with the other bids of the member with this name, in bytes, and with so many nodes at
     /// most.
     WhatIf(List<u8>, u32),
+    /// Find the fewest vacant lines, up to so many, with which the crew in the folder can fly the month, and award it with
+    /// them, with so many nodes at most for each number.
+    Open(u32, u32),
+    /// Judge the award with so many vacant lines in the folder.
+    OpenCheck(u32),
 }
 
 /// The number of nodes that an option allows.
@@ -213,6 +221,34 @@ fn whatif(alloc: Global, words: &[&str], found: &ArgMatches<'_>) -> Result<Optio
     Ok(Some(Command::WhatIf(bytes, nodes)))
 }
 
+/// The number of vacant lines that these words are, with this option among them where there is one.
+fn lines_found(words: &[&str], found: &ArgMatches<'_>, option: Option<&str>) -> Option<u32>
+    ensures value { result ≡ lines_read (words_of words.now) (option_word option.entry)
+        (texts_found found.now).lines }
+{
+    let word = one(words, found.get_str("lines"), option)?;
+    number_within(word, 0, MOST_LINES)
+}
+
+/// The command `open` with these words behind it.
+fn open_lines(words: &[&str], found: &ArgMatches<'_>) -> Option<Command>
+    ensures value { result ≡ open_read (words_of words.now) (texts_found found.now).nodes
+        (texts_found found.now).lines }
+{
+    let option = found.get_str("nodes");
+    let lines = lines_found(words, found, option)?;
+    let nodes = nodes_allowed(option)?;
+    Some(Command::Open(lines, nodes))
+}
+
+/// The command `opencheck` with these words behind it.
+fn open_check(words: &[&str], found: &ArgMatches<'_>) -> Option<Command>
+    ensures value { result ≡ opencheck_read (words_of words.now) (texts_found found.now).lines }
+{
+    let lines = lines_found(words, found, None)?;
+    Some(Command::OpenCheck(lines))
+}
+
 /// The command of a first word with what was read behind it.
 fn named(
     alloc: Global,
@@ -249,6 +285,12 @@ fn named(
     }
     if word == "whatif" {
         return whatif(alloc, words, found);
+    }
+    if word == "open" {
+        return Ok(open_lines(words, found));
+    }
+    if word == "opencheck" {
+        return Ok(open_check(words, found));
     }
     Ok(None)
 }

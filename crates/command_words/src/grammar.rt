@@ -107,7 +107,9 @@ fn grammar<'w>(alloc: Global) -> Result<Grammar<'w>, AllocError>
     ensures shape { IfOk result (λ c. app_of c ≡ commands) }
 {
     let desk = with_desk(alloc)?;
-    and_command(desk, with_nodes(alloc, "whatif", "member"))
+    let first = and_command(desk, with_nodes(alloc, "whatif", "member"))?;
+    let second = and_command(first, with_nodes(alloc, "open", "lines"))?;
+    and_command(second, with_one(alloc, "opencheck", needed(alloc, "lines")))
 }
 
 /// What `clap` reads from the words, of which the first is the program's name, or nothing where it

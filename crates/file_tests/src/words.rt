@@ -83,6 +83,21 @@ static NO_MONTHS: [&[&str]; 9] = [
     &["trial", "7", "8", "--nodes", "24"],
 ];
 
+static NOT_OPEN: [&[&str]; 12] = [
+    &["open"],
+    &["open", ""],
+    &["open", "51"],
+    &["open", "05"],
+    &["open", "-1"],
+    &["open", "1", "2"],
+    &["open", "1", "--nodes", "0"],
+    &["open", "--nodes=5", "1", "--nodes=5"],
+    &["opencheck"],
+    &["opencheck", "51"],
+    &["opencheck", "1", "--nodes", "5"],
+    &["opencheck", "--", "1"],
+];
+
 /// Says that each row of a table is no command.
 fn assert_none(rt: &impl Abort, alloc: Global, table: &[&[&str]]) {
     for words in table {
@@ -95,6 +110,7 @@ fn other_words_are_no_command(rt: HostRuntime) {
     assert_none(&rt, rt.alloc(), &NO_COMMANDS);
     assert_none(&rt, rt.alloc(), &NO_MONTHS);
     assert_none(&rt, rt.alloc(), &NO_DESKS);
+    assert_none(&rt, rt.alloc(), &NOT_OPEN);
 }
 
 #[test]
@@ -152,6 +168,26 @@ fn asks_what_if(rt: HostRuntime) {
         rt.alloc(),
         &["whatif", "M1"],
         Command::WhatIf(List::from_vec(name), 20000),
+    );
+}
+
+#[test]
+fn opens_and_judges_months(rt: HostRuntime) {
+    let texts: [&[&str]; 3] = [
+        &["open", "50", "--nodes", "5"],
+        &["open", "--nodes=5", "50"],
+        &["open", "--nodes", "5", "50"],
+    ];
+    for words in texts {
+        assert_read(&rt, rt.alloc(), words, Command::Open(50, 5));
+    }
+    assert_read(&rt, rt.alloc(), &["open", "0"], Command::Open(0, 20000));
+    assert_read(&rt, rt.alloc(), &["opencheck", "0"], Command::OpenCheck(0));
+    assert_read(
+        &rt,
+        rt.alloc(),
+        &["opencheck", "50"],
+        Command::OpenCheck(50),
     );
 }
 

@@ -20,6 +20,9 @@ use Rattle.desk_commands.specs.declared.trade_stop.TradeStop.{TradeStop}
 use Rattle.month_files.specs.Handing.{FromReads}
 use Rattle.plan_commands.specs.declared.asking_stop.WhatIf.{WhatIf}
 use Rattle.plan_commands.specs.declared.asking_stop.WhatIfStop.{WhatIfStop}
+use Rattle.plan_commands.specs.declared.open_check_stop.OpenCheckStop.{OpenCheckStop}
+use Rattle.plan_commands.specs.declared.open_stop.OpenFinding.{OpenFinding}
+use Rattle.plan_commands.specs.declared.open_stop.OpenStop.{OpenStop}
 use Rattle.month_files.specs.declared.file.File.{File}
 use Rattle.answer_texts.specs.declared.status.Status.{Status}
 use Rattle.answer_texts.specs.declared.status.Status.TheVariants as status
@@ -41,6 +44,8 @@ of_migrate (outcome.Migrate end) asked = (end, refl)
 of_migrate (outcome.Trade end) asked = absurd cc
 of_migrate (outcome.Calendar name end) asked = absurd cc
 of_migrate (outcome.WhatIf name nodes end) asked = absurd cc
+of_migrate (outcome.Open lines nodes end) asked = absurd cc
+of_migrate (outcome.OpenCheck lines end) asked = absurd cc
 
 pub of_trade : (o : Outcome) → asked_by o ≡ Some command.Trade → (end : Result Traded TradeStop) × (o ≡ outcome.Trade end)
 of_trade outcome.Usage asked = absurd cc
@@ -53,6 +58,8 @@ of_trade (outcome.Migrate end) asked = absurd cc
 of_trade (outcome.Trade end) asked = (end, refl)
 of_trade (outcome.Calendar name end) asked = absurd cc
 of_trade (outcome.WhatIf name nodes end) asked = absurd cc
+of_trade (outcome.Open lines nodes end) asked = absurd cc
+of_trade (outcome.OpenCheck lines end) asked = absurd cc
 
 pub of_calendar : (o : Outcome) (name : List ℕ) → asked_by o ≡ Some (command.Calendar name) → (end : Result MemberCalendar CalendarStop) × (o ≡ outcome.Calendar name end)
 of_calendar outcome.Usage name asked = absurd cc
@@ -65,6 +72,8 @@ of_calendar (outcome.Migrate end) name asked = absurd cc
 of_calendar (outcome.Trade end) name asked = absurd cc
 of_calendar (outcome.Calendar n end) name asked = let same : n ≡ name = cc in (end, ap (λ (k : List ℕ). outcome.Calendar k end) same)
 of_calendar (outcome.WhatIf n nodes end) name asked = absurd cc
+of_calendar (outcome.Open lines nodes end) name asked = absurd cc
+of_calendar (outcome.OpenCheck lines end) name asked = absurd cc
 
 pub of_whatif : (o : Outcome) (name : List ℕ) (nodes : ℕ) → asked_by o ≡ Some (command.WhatIf name nodes)
     → (end : Result WhatIf WhatIfStop) × (o ≡ outcome.WhatIf name nodes end)
@@ -77,10 +86,45 @@ of_whatif (outcome.Trial sizes n end) name nodes asked = absurd cc
 of_whatif (outcome.Migrate end) name nodes asked = absurd cc
 of_whatif (outcome.Trade end) name nodes asked = absurd cc
 of_whatif (outcome.Calendar n end) name nodes asked = absurd cc
+of_whatif (outcome.Open l k end) name nodes asked = absurd cc
+of_whatif (outcome.OpenCheck l end) name nodes asked = absurd cc
 of_whatif (outcome.WhatIf n k end) name nodes asked =
     let same : n ≡ name = cc in
     let so_many : k ≡ nodes = cc in
     (end, ap (λ (x : List ℕ). outcome.WhatIf x k end) same ∙ ap (λ (x : ℕ). outcome.WhatIf name x end) so_many)
+
+pub of_open : (o : Outcome) (lines nodes : ℕ) → asked_by o ≡ Some (command.Open lines nodes)
+    → (end : Result OpenFinding OpenStop) × (o ≡ outcome.Open lines nodes end)
+of_open outcome.Usage lines nodes asked = absurd cc
+of_open (outcome.Check end) lines nodes asked = absurd cc
+of_open (outcome.Award n end) lines nodes asked = absurd cc
+of_open (outcome.Show n end) lines nodes asked = absurd cc
+of_open (outcome.Make sizes end) lines nodes asked = absurd cc
+of_open (outcome.Trial sizes n end) lines nodes asked = absurd cc
+of_open (outcome.Migrate end) lines nodes asked = absurd cc
+of_open (outcome.Trade end) lines nodes asked = absurd cc
+of_open (outcome.Calendar n end) lines nodes asked = absurd cc
+of_open (outcome.WhatIf n k end) lines nodes asked = absurd cc
+of_open (outcome.Open l k end) lines nodes asked =
+    let same : l ≡ lines = cc in
+    let so_many : k ≡ nodes = cc in
+    (end, ap (λ (x : ℕ). outcome.Open x k end) same ∙ ap (λ (x : ℕ). outcome.Open lines x end) so_many)
+of_open (outcome.OpenCheck l end) lines nodes asked = absurd cc
+
+pub of_open_check : (o : Outcome) (lines : ℕ) → asked_by o ≡ Some (command.OpenCheck lines)
+    → (end : Result (List ℕ) OpenCheckStop) × (o ≡ outcome.OpenCheck lines end)
+of_open_check outcome.Usage lines asked = absurd cc
+of_open_check (outcome.Check end) lines asked = absurd cc
+of_open_check (outcome.Award n end) lines asked = absurd cc
+of_open_check (outcome.Show n end) lines asked = absurd cc
+of_open_check (outcome.Make sizes end) lines asked = absurd cc
+of_open_check (outcome.Trial sizes n end) lines asked = absurd cc
+of_open_check (outcome.Migrate end) lines asked = absurd cc
+of_open_check (outcome.Trade end) lines asked = absurd cc
+of_open_check (outcome.Calendar n end) lines asked = absurd cc
+of_open_check (outcome.WhatIf n k end) lines asked = absurd cc
+of_open_check (outcome.Open l k end) lines asked = absurd cc
+of_open_check (outcome.OpenCheck l end) lines asked = let same : l ≡ lines = cc in (end, ap (λ (x : ℕ). outcome.OpenCheck x end) same)
 
 -- ---- what is said of an outcome
 

@@ -19,7 +19,7 @@ use Rattle.plan_commands.specs.declared.asking_stop.WhatIfStop.TheVariants as st
 use Rattle.answer_texts.specs.WhatIfTexts.{whatif_status}
 use Rattle.answer_texts.specs.WriteEnds.{write_status}
 use Rattle.answer_texts.specs.declared.status.Status.TheVariants as status
-use Rattle.pbs_engine.specs.Rows.{IsQuiet, HasAgain, IsSpentAgain, MayAsk}
+use Rattle.pbs_engine.specs.Rows.{IsQuiet, HasAgain, MayAsk}
 use Rattle.pbs_engine.specs.Runs.{RunCause}
 use Rattle.pbs_engine.proofs.AwardRows.{unwritten_caused}
 use Rattle.pbs_engine.proofs.Meaning.{CommandMeans}
@@ -31,7 +31,7 @@ on_claim : (files : Files) (name : List ℕ) (P Q : Question → Claimed → Typ
     → OfClaim files name Q
 on_claim files name P Q h f = record { q = h.q; before = h.before; claimed = h.claimed; there = h.there; found = f h.q h.claimed h.found }
 
-spent_again : (nodes spent : ℕ) (q : Question) (claimed : Claimed) → IsSpent nodes spent q claimed → IsSpentAgain nodes q claimed
+spent_again : (nodes spent : ℕ) (q : Question) (claimed : Claimed) → IsSpent nodes spent q claimed → IsSpent nodes nodes q claimed
 spent_again nodes spent q claimed h = record { kept = h.kept; before = h.before; spends = record { all = refl; ledger = h.spends.ledger } }
 
 pub whatif_means : (files : Files) (name : List ℕ) (nodes : ℕ) (end : Result WhatIf WhatIfStop) → IsRun files name nodes end
@@ -45,7 +45,7 @@ whatif_means files name nodes (Err (stop.BadInput (bad.Fault fault))) h = (fault
 whatif_means files name nodes (Err (stop.BadInput bad.NoMemory)) h = tt
 whatif_means files name nodes (Err (stop.BadBids fault)) h = (input.Bids fault, inr (fault, refl, h))
 whatif_means files name nodes (Err (stop.No why)) h = (why, h)
-whatif_means files name nodes (Err (stop.Budget spent)) h = inr (on_claim files name (IsSpent nodes spent) (IsSpentAgain nodes) h (spent_again nodes spent))
+whatif_means files name nodes (Err (stop.Budget spent)) h = on_claim files name (IsSpent nodes spent) (IsSpent nodes nodes) h (spent_again nodes spent)
 whatif_means files name nodes (Err (stop.Unwritten w u)) h = unwritten_means files (command.WhatIf name nodes) u.why
 whatif_means files name nodes (Err stop.NoMemory) h = tt
 

@@ -76,7 +76,7 @@ bids_again files name q before claimed kept may = record {
 }
 
 -- a greatest roster is an award, at each place
-award_of : (problem : Problem) (roster : List (List ℕ)) (scores : List ℕ) → IsComplete problem roster → IsGreatest problem roster → scores ≡ scores_of problem roster
+pub award_of : (problem : Problem) (roster : List (List ℕ)) (scores : List ℕ) → IsComplete problem roster → IsGreatest problem roster → scores ≡ scores_of problem roster
     → IsAwardOf problem roster scores
 award_of problem roster scores complete greatest is = record {
   complete = complete;
@@ -150,7 +150,7 @@ unwritten_whatifs old new name nodes write.Fault before after = tt
 unwritten_whatifs old new name nodes write.NoMemory before after = tt
 
 -- the budget that was spent is the one that was given
-budget_put : (nodes spent : ℕ) (before after : Option (List ℕ)) → spent ≡ nodes → after ≡ with_piece before (budget_line spent) → after ≡ with_piece before (budget_line nodes)
+pub budget_put : (nodes spent : ℕ) (before after : Option (List ℕ)) → spent ≡ nodes → after ≡ with_piece before (budget_line spent) → after ≡ with_piece before (budget_line nodes)
 budget_put nodes spent before after same put = put ∙ ap (λ (n : ℕ). with_piece before (budget_line n)) same
 
 end_whatifs : (old : Files) (new : Option Files) (name : List ℕ) (nodes : ℕ) (end : Result WhatIf WhatIfStop) → IsRun old name nodes end → Leaves (Some old) new (whatif_written end)

@@ -128,13 +128,15 @@ module _ (problem : Problem) (most nodes entries : ℕ) (few : nodes ≤ 20000) 
     pub few_splits : all_splits awarded.proofs + shown_splits awarded.shown ≤ 20000
     few_splits = omega (arith, is.splits, is.room, is.run.run.cap, few)
 
-    pub finds_award : (scores : List ℕ) (rows : List OpenRow) (drafts : List Draft) → SaysAward problem count below roster reasons awarded scores rows drafts
+    pub finds_award : (scores : List ℕ) (rows : List OpenRow) (drafts : List Draft) → HasRoomFor problem most
+        → SaysAward problem count below roster reasons awarded scores rows drafts
         → entries ≡ length book.entries → FindsOpen problem most nodes count scores rows entries drafts
-    finds_award scores rows drafts says counted = record {
+    finds_award scores rows drafts room says counted = record {
       below = below;
       roster = roster;
       reasons = reasons;
       awarded = awarded;
+      most_fit = room;
       within = is.within;
       needs = is.needs;
       fewest = is.fewest;
@@ -150,10 +152,11 @@ module _ (problem : Problem) (most nodes entries : ℕ) (few : nodes ≤ 20000) 
     writable_last =
         writable_none problem (suc most) (Some proof) (proof, refl, is.refuted) (omega (arith, is.splits, is.room, is.run.run.cap, few))
 
-    pub finds_none : (drafts : List Draft) → drafts ≡ none_drafts (Some proof) → ForSome (Some proof) (λ items. IsReadable OpenNone (form.NoRoster items))
+    pub finds_none : (drafts : List Draft) → HasRoomFor problem most → drafts ≡ none_drafts (Some proof) → ForSome (Some proof) (λ items. IsReadable OpenNone (form.NoRoster items))
         → entries ≡ length book.entries → FindsNone problem most nodes entries drafts
-    finds_none drafts drafts_are readable counted = record {
+    finds_none drafts room drafts_are readable counted = record {
       proof = proof;
+      most_fit = room;
       refuted = is.refuted;
       ledger = record { book = book; run = is.run; counted = counted };
       room = omega (arith, counted, is.room, is.run.run.cap);
@@ -162,9 +165,11 @@ module _ (problem : Problem) (most nodes entries : ℕ) (few : nodes ≤ 20000) 
       readable = readable proof refl;
     }
 
-pub spends : (problem : Problem) (most nodes count : ℕ) (book : Book) → IsOpenedSpent problem most nodes count book → IsSpent problem most nodes nodes
-spends problem most nodes count book is = record {
+pub spends : (problem : Problem) (most nodes count : ℕ) (book : Book) → HasRoomFor problem most → IsOpenedSpent problem most nodes count book
+    → IsSpent problem most nodes nodes
+spends problem most nodes count book room is = record {
   all = refl;
+  most_fit = room;
   count = count;
   within = is.within;
   fewer = is.fewer;

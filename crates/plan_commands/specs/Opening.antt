@@ -35,7 +35,7 @@ use Rattle.open_time.specs.declared.fault.OpenFault.{OpenFault}
 use Rattle.open_time.specs.declared.fault.OpenFault.TheVariants as fault
 use Rattle.open_time.specs.Opened.{IsRunWith}
 use Rattle.open_time.specs.Refuted.{IsRefutedWith, IsOpenAward}
-use Rattle.open_time.specs.Vacant.{IsWithVacant, IsOpenFault, IsUnfilledBelow, IsUnfilledUnder, NeedsVacant}
+use Rattle.open_time.specs.Vacant.{HasRoomFor, IsWithVacant, IsOpenFault, IsUnfilledBelow, IsUnfilledUnder, NeedsVacant}
 use Rattle.plan_commands.specs.declared.open_stop.OpenFinding.{OpenFinding}
 use Rattle.plan_commands.specs.declared.open_stop.OpenMiss.{OpenMiss}
 use Rattle.plan_commands.specs.declared.open_stop.OpenMiss.TheVariants as miss
@@ -105,13 +105,14 @@ pub record SaysAward (problem : Problem) (count : ℕ) (below : Option (List Ite
   pub reasons_readable : AreReadableReasons made reasons
   pub roster_readable : IsReadableRoster made roster
 
--- So many vacant lines are needed, no more than were asked for, and no lesser number is enough; the award with them is accepted, with the proof that
--- one less is not enough; and it is said so.
+-- As many vacant lines as were asked for can be added. So many are needed, no more than that, and no lesser number is
+-- enough; the award with them is accepted, with the proof that one less is not enough; and it is said so.
 pub record FindsOpen (problem : Problem) (most nodes count : ℕ) (scores : List ℕ) (rows : List OpenRow) (entries : ℕ) (drafts : List Draft) : Type 0 where
   pub below : Option (List Item)
   pub roster : List (List ℕ)
   pub reasons : List Denial
   pub awarded : Awarded
+  pub most_fit : HasRoomFor problem most
   pub within : count ≤ most
   pub needs : NeedsVacant problem count
   pub fewest : IsUnfilledUnder problem count
@@ -121,9 +122,10 @@ pub record FindsOpen (problem : Problem) (most nodes count : ℕ) (scores : List
   pub room : entries < nodes
   pub splits : all_splits awarded.proofs + shown_splits awarded.shown ≤ entries
 
--- a proof that the most that were asked for are not enough, and the file that says it
+-- the most that were asked for can be added, a proof that they are not enough, and the file that says it
 pub record FindsNone (problem : Problem) (most nodes entries : ℕ) (drafts : List Draft) : Type 0 where
   pub proof : List Item
+  pub most_fit : HasRoomFor problem most
   pub refuted : IsRefutedWith problem most proof
   pub ledger : HasLedgerWith problem most nodes entries
   pub room : entries < nodes
@@ -135,9 +137,11 @@ abbrev pub Finds : Problem → ℕ → ℕ → Opening → ℕ → List Draft �
 Finds problem most nodes (Award count scores rows) entries drafts = FindsOpen problem most nodes count scores rows entries drafts
 Finds problem most nodes NoRoster entries drafts = FindsNone problem most nodes entries drafts
 
--- for a number of vacant lines, at most those that were asked for, one less is not enough, and its ledger is full
+-- the most vacant lines that were asked for can be added; for one of the numbers up to that, one less is not enough, and its
+-- ledger is full
 pub record IsSpent (problem : Problem) (most nodes spent : ℕ) : Type 0 where
   pub all : spent ≡ nodes
+  pub most_fit : HasRoomFor problem most
   pub count : ℕ
   pub within : count ≤ most
   pub fewer : IsUnfilledBelow problem count

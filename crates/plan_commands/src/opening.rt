@@ -159,6 +159,7 @@ fn say(
     opened: Opened,
 ) -> Result<OpenFinding, OpenMiss>
     requires few { nodes ≤ 20000 }
+    requires room { HasRoomFor problem.now most }
     requires opened { IsOpened problem.now most nodes opened }
     ensures end { IsOpenEnd problem.now most nodes result }
 {

@@ -158,5 +158,5 @@ pub(crate) const UNANSWERED: [Asked; 14] = [
 ];
 
 /// The usage line.
-const USAGE: &str =
-    "usage: pbs FOLDER award [--nodes N] | check | show MEMBER | make NUMBER MEMBERS PAIRINGS | trial NUMBER MEMBERS PAIRINGS [--nodes N] | migrate | trade | whatif MEMBER [--nodes N] | calendar MEMBER\n";
+pub(crate) const USAGE: &str =
+    "usage: pbs FOLDER award [--nodes N] | check | show MEMBER | make NUMBER MEMBERS PAIRINGS | trial NUMBER MEMBERS PAIRINGS [--nodes N] | migrate | trade | whatif MEMBER [--nodes N] | calendar MEMBER | open V [--nodes N] | opencheck V\n";

@@ -6,6 +6,10 @@ mod asked;
 #[cfg(test)]
 mod asking;
 #[cfg(test)]
+mod opening;
+#[cfg(test)]
 mod runs;
 #[cfg(test)]
 mod seniority;
+#[cfg(test)]
+mod vacancies;

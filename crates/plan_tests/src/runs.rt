@@ -15,7 +15,7 @@ pub(crate) struct Outcome {
 }
 
 /// Puts files into a shelf, each in place of one of its name.
-fn place_all(rt: &impl Abort, alloc: Global, shelf: &mut MemoryShelf, files: &[File]) {
+pub(crate) fn place_all(rt: &impl Abort, alloc: Global, shelf: &mut MemoryShelf, files: &[File]) {
     for (name, text) in files {
         assert!(rt; !name.is_empty() && name.len() <= 32);
         shelf
