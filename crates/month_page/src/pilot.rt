@@ -1,0 +1,135 @@
+//! What the page says of a pilot.
+ghost use Rattle.std.specs.Prelude.{◌≡◌, ◌<◌, All, length};
+ghost use Rattle.roster_model.specs.Scores.{bids_of};
+
+use crate::entry::{Entry, entries_of};
+use bid_language::put_bid;
+use bid_score::{credit, days_off, granted, score};
+use duty_calendar::{List, Member, Memory};
+use roster_model::{BidRef, Cause, Denial, Line, Problem};
+use std::alloc::Global;
+
+/// A bid, and whether the pilot's line grants it. Of a denied one there may be a cause.
+#[derive(Drop)]
+pub struct SeenBid {
+    pub text: List<u8>,
+    pub granted: bool,
+    pub cause: Option<Cause>,
+}
+
+/// A pilot with a line. Places count from 1, times and credit are in minutes.
+#[derive(Drop)]
+pub struct Pilot<'a> {
+    pub place: u32,
+    pub name: &'a [u8],
+    pub low: u32,
+    pub high: u32,
+    pub credit: u32,
+    pub score: u32,
+    pub days_off: u32,
+    pub entries: Vec<Entry<'a>>,
+    pub bids: Vec<SeenBid>,
+}
+
+/// The cause of a bid's denial, where the reasons name it.
+fn cause_of(reasons: &[Denial], bid: BidRef) -> Option<Cause> {
+    for denial in reasons {
+        if denial.bid == bid {
+            return Some(denial.cause);
+        }
+    }
+    None
+}
+
+/// A bid of a member with a line.
+fn seen_bid(
+    alloc: Global,
+    problem: &Problem,
+    reasons: &[Denial],
+    bid: BidRef,
+    line: &Line,
+) -> Result<SeenBid, Memory>
+    requires member { bid.member < length problem.now.base.members }
+    requires bid { bid.bid < length (bids_of problem.now bid.member) }
+    requires in_range { All (λ p. p < length problem.now.base.pairings) line.now }
+{
+    let mut text = List::new(alloc);
+    put_bid(&mut text, problem, bid)?;
+    Ok(SeenBid {
+        text,
+        granted: granted(problem, bid.member, bid.bid, line),
+        cause: cause_of(reasons, bid),
+    })
+}
+
+/// How many bids a member has.
+fn bid_count(problem: &Problem, member: u32) -> u32
+    requires member { member < length problem.now.base.members }
+    ensures value { result ≡ length (bids_of problem.now member) }
+{
+    problem.bids.as_slice()[member as usize].len() as u32
+}
+
+/// The bids of a member with a line.
+fn seen_bids(
+    alloc: Global,
+    problem: &Problem,
+    reasons: &[Denial],
+    member: u32,
+    line: &Line,
+) -> Result<Vec<SeenBid>, Memory>
+    requires member { member < length problem.now.base.members }
+    requires in_range { All (λ p. p < length problem.now.base.pairings) line.now }
+{
+    let mut bids = Vec::new(alloc);
+    for bid in 0..bid_count(problem, member) {
+        let bid = BidRef { member, bid };
+        bids.push(seen_bid(alloc, problem, reasons, bid, line)?)?;
+    }
+    Ok(bids)
+}
+
+/// A member.
+fn member_at(problem: &Problem, member: u32) -> &Member
+    requires member { member < length problem.now.base.members }
+{
+    &problem.base.members.as_slice()[member as usize]
+}
+
+/// A member with a line.
+pub fn pilot_of<'a>(
+    alloc: Global,
+    problem: &'a Problem,
+    reasons: &[Denial],
+    member: u32,
+    line: &Line,
+) -> Result<Pilot<'a>, Memory>
+    requires member { member < length problem.now.base.members }
+    requires in_range { All (λ p. p < length problem.now.base.pairings) line.now }
+{
+    let known = member_at(problem, member);
+    Ok(Pilot {
+        place: member.saturating_add(1),
+        name: known.name.bytes(),
+        low: known.low,
+        high: known.high,
+        credit: credit(problem, member, line),
+        score: score(problem, member, line),
+        days_off: days_off(problem, member, line),
+        entries: entries_of(alloc, problem, member, line.pairings())?,
+        bids: seen_bids(alloc, problem, reasons, member, line)?,
+    })
+}
+
+impl<'a> Pilot<'a> {
+    /// How many of the bids are granted, or how many are not.
+    pub fn count(&self, granted: bool) -> u32 {
+        let mut count: u32 = 0;
+        for bid in &self.bids {
+            if bid.granted == granted {
+                count = count.saturating_add(1);
+            }
+        }
+        count
+    }
+}
