@@ -6,7 +6,7 @@ new one; or with the text that the file holds from then on; or with nothing, and
 import datetime
 
 ONE, TWO, FOUR, SIXTY, NONE = "one-pilot", "two-pilots-seniority", "four-pilots", "sixty-hours", "no-roster"
-TRADES = "trades"
+TRADES, OPEN = "trades", "open-time"
 HEAD = "member,kind,report,parked,release,legs,credit\n"
 PRICED = """pbs-certificate 1
 award 2 1
@@ -82,26 +82,51 @@ def bids(line, text):
     return check(line, ONE, ("bids.txt", text))
 
 
+# Two members with four pairings between them, two each: who wants what is not seen at once.
+TIGHT = (
+    ("crew.csv", "member,low,high\nM1,20:00,20:00\nM2,20:00,20:00\n"),
+    ("pairings.csv", "pairing,need,credit\n" + "".join(f"P{p},1,10:00\n" for p in (1, 2, 3, 4))),
+    ("duties.csv", "pairing,no,report,parked,release,layover\n" + "".join(
+        f"P{p},1,2026-06-{d:02}T08:00Z,2026-06-{d:02}T14:00Z,2026-06-{d:02}T14:30Z,{s}\n"
+        f"P{p},2,2026-06-{d + 1:02}T10:00Z,2026-06-{d + 1:02}T16:00Z,2026-06-{d + 1:02}T16:30Z,\n"
+        for p, d, s in ((1, 3, "ORD"), (2, 6, "DEN"), (3, 13, "ORD"), (4, 16, "DEN")))),
+    ("legs.csv", "pairing,no,from,to,out,in\n" + "".join(
+        f"P{p},1,DUB,{s},2026-06-{d:02}T09:00Z,2026-06-{d:02}T13:00Z\n"
+        f"P{p},2,{s},DUB,2026-06-{d + 1:02}T11:00Z,2026-06-{d + 1:02}T15:00Z\n"
+        for p, d, s in ((1, 3, "ORD"), (2, 6, "DEN"), (3, 13, "ORD"), (4, 16, "DEN")))),
+)
+WEEKS = "member M1\n10 off 2026-06-03 to 2026-06-07\n10 off 2026-06-13 to 2026-06-17\n"
+CITIES = "member M2\n10 avoid layover ORD\n10 avoid layover DEN\n"
+# The award where M1 has bids and M2 has none.
+AWARDED = (
+    ("bids.txt", WEEKS),
+    ("certificate.txt", """pbs-certificate 2
+award 2 1
+proof 1 1
+lens 60 0000000000000003 0 0
+noline 1 1
+proof 1 1
+lens 60 0000000000000000 0 0
+noline 2 1
+shown 0 2
+line 1 2
+line 3 4
+end
+"""),
+    ("reasons.txt", "M1 2 tie: 10 off 2026-06-13 to 2026-06-17\n"),
+    ("roster.csv", "member,pairings,credit,score\nM1,P3 P4,20:00,10\nM2,P1 P2,20:00,0\n"),
+)
+
+
 STATUSES = [
     ("award", ONE, ["award"], ()),
     ("no roster", NONE, ["award"], ()),
-    ("budget 1", TWO, ["award", "--nodes", "1"], (
-        ("crew.csv", "member,low,high\nM1,20:00,20:00\nM2,20:00,20:00\n"),
-        ("pairings.csv", "pairing,need,credit\n" + "".join(f"P{p},1,10:00\n" for p in (1, 2, 3, 4))),
-        ("duties.csv", "pairing,no,report,parked,release,layover\n" + "".join(
-            f"P{p},1,2026-06-{d:02}T08:00Z,2026-06-{d:02}T14:00Z,2026-06-{d:02}T14:30Z,{s}\n"
-            f"P{p},2,2026-06-{d + 1:02}T10:00Z,2026-06-{d + 1:02}T16:00Z,2026-06-{d + 1:02}T16:30Z,\n"
-            for p, d, s in ((1, 3, "ORD"), (2, 6, "DEN"), (3, 13, "ORD"), (4, 16, "DEN")))),
-        ("legs.csv", "pairing,no,from,to,out,in\n" + "".join(
-            f"P{p},1,DUB,{s},2026-06-{d:02}T09:00Z,2026-06-{d:02}T13:00Z\n"
-            f"P{p},2,{s},DUB,2026-06-{d + 1:02}T11:00Z,2026-06-{d + 1:02}T15:00Z\n"
-            for p, d, s in ((1, 3, "ORD"), (2, 6, "DEN"), (3, 13, "ORD"), (4, 16, "DEN")))),
-        ("bids.txt", "member M1\n10 off 2026-06-03 to 2026-06-07\n10 off 2026-06-13 to 2026-06-17\n"
-                     "member M2\n10 avoid layover ORD\n10 avoid layover DEN\n"))),
+    ("budget 1", TWO, ["award", "--nodes", "1"], (*TIGHT, ("bids.txt", WEEKS + CITIES))),
     check("yes", ONE),
     check("yes none", NONE),
     ("usage: pbs FOLDER award [--nodes N] | check | show MEMBER | make NUMBER MEMBERS PAIRINGS | "
-     "trial NUMBER MEMBERS PAIRINGS [--nodes N] | migrate | trade | whatif MEMBER [--nodes N] | calendar MEMBER", ONE, ["award", "--nodes", "0"], ()),
+     "trial NUMBER MEMBERS PAIRINGS [--nodes N] | migrate | trade | whatif MEMBER [--nodes N] | calendar MEMBER | open V [--nodes N] | "
+     "opencheck V", ONE, ["award", "--nodes", "0"], ()),
     check("missing legs.csv", ONE, ("legs.csv",)),
     check("missing rules.toml", "no-such-month"),
     check("read fault crew.csv", ONE, ("crew.csv", "a folder")),
@@ -217,6 +242,23 @@ CALENDARS = [
     ("no member M9", ONE, ["calendar", "M9"], ()),
 ]
 
+OTHER = "member M1\n10 fly P1\nmember M2\n10 daysoff 30\n"
+ASKED = [
+    ("whatif", TWO, ["whatif", "M2"], (("bids2.txt", OTHER),)),
+    ("missing bids2.txt", TWO, ["whatif", "M2"], ()),
+    ("bad bids2.txt 2 8 6", TWO, ["whatif", "M9"], (("bids2.txt", "member M1\n10 fly P9\n"),)),
+    ("no member M9", TWO, ["whatif", "M9"], (("bids2.txt", OTHER), ("certificate.txt", "none\n"))),
+    ("no certificate 1 1", TWO, ["whatif", "M2"], (("bids2.txt", OTHER), ("certificate.txt", "none\n"), ("roster.csv",))),
+    ("no award", NONE, ["whatif", "M2"], (("bids2.txt", ""),)),
+    ("missing roster.csv", TWO, ["whatif", "M2"], (("bids2.txt", ""), ("roster.csv",))),
+    ("no roster 2 5", TWO, ["whatif", "M2"], (("bids2.txt", ""), ("roster.csv", "5:00,10", "5:00,11"))),
+    ("no reasons 1 5", TWO, ["whatif", "M2"], (("bids2.txt", ""), ("reasons.txt", "10 fly", "20 fly"))),
+    ("no 7 2 1", TWO, ["whatif", "M2"], (("bids2.txt", ""), ("reasons.txt", "place 1 M1", "place 2 M2"))),
+    ("no bids M1", TWO, ["whatif", "M2"], (("bids2.txt", "member M2\n10 daysoff 30\n"),)),
+    ("budget 1", TWO, ["whatif", "M2", "--nodes", "1"], (*TIGHT, *AWARDED, ("bids2.txt", WEEKS + CITIES))),
+    ("write fault whatif-roster.csv", TWO, ["whatif", "M2"], (("bids2.txt", OTHER), ("whatif-roster.csv", "a folder"))),
+]
+
 ROSTERS = [
     check("no roster 1 1", ONE, ("roster.csv", "member,pairings,credit,score\n", "member,pairings,credit,score\r\n")),
     check("no roster 2 2", ONE, ("roster.csv", "M1,P1,5:00,10", "M1,P1,5:00")),
@@ -277,4 +319,26 @@ JUDGED = [
     check("no 7 2 1", TWO, ("reasons.txt", "place 1 M1", "place 2 M2")),
 ]
 
-CASES = (STATUSES + RULES + FILES + BIDS + CERTIFICATES + ROSTERS + REASONS + LINES + ITEMS + JUDGED + TRADED + CALENDARS)
+def opencheck(line, *changes):
+    return line, OPEN, ["opencheck", "1"], changes
+
+
+# A month with as many pilots as may be, and one in which the first pilot has the name of a vacant line.
+FULL = ("crew.csv", "member,low,high\n" + "".join(f"N{n},0:00,30:00\n" for n in range(200))), ("bids.txt", "")
+NAMED = ("crew.csv", "Ada", "vacant-1"), ("bids.txt", "")
+
+OPENED = [
+    ("open 1", OPEN, ["open", "5"], ()),
+    ("open 0", ONE, ["open", "5"], ()),
+    ("no roster", OPEN, ["open", "0"], ()),
+    ("no open 1 201", OPEN, ["open", "1"], FULL),
+    ("no open 2 1", OPEN, ["open", "1"], NAMED),
+    opencheck("yes open 1"),
+    opencheck("no open 1 2 1", *NAMED),
+    opencheck("no certificate 0 2", ("open-none.txt", PRICED)),
+    opencheck("no open 3 5 1", ("open-none.txt", "pbs-certificate 2\nnone\nproof 0 0\nend\n")),
+    opencheck("no open 4 2 1 0", ("open-roster.csv", "vacant-1,LON02 BOS04 ROM08 ROM13,35:00,0", "vacant-1,BOS04 ROM08 ROM13,30:00,0")),
+]
+
+CASES = (STATUSES + RULES + FILES + BIDS + CERTIFICATES + ROSTERS + REASONS + LINES + ITEMS + JUDGED + TRADED + CALENDARS
+         + ASKED + OPENED)
