@@ -3,7 +3,7 @@ import re
 
 VERSION, WORD, NUMBER, SHORT, TRAILING, LIMIT = range(1, 7)
 MOST_WEIGHT, MOST_MINUTES = 2_147_483_647, 4_294_967_295
-AS_ONE, USES_OF_AN_ITEM = 4_294_967_296, 200
+USES_OF_AN_ITEM = 200
 
 
 class Fault(Exception):
@@ -44,19 +44,15 @@ class Words:
         self.take("[01]")
         self.limit(self.all(self.window), 64)
 
-    def compared(self, most, form="0|[1-9][0-9]*"):
-        """A number as it is compared with others: those from 4,294,967,296 on count as one."""
-        return min(self.number(most, form), AS_ONE)
-
     def pair(self, most, last):
         """The place of a pair, which is behind the last one; its weight is not 0."""
         place, weight = self.take("[1-9][0-9]*:-?[1-9][0-9]*").split(":")
         self.limit(abs(int(weight)), MOST_WEIGHT)
-        self.must(last < min(int(place), AS_ONE) <= most)
-        return min(int(place), AS_ONE)
+        self.must(last < int(place) <= most)
+        return int(place)
 
     def sparse(self):
-        most, last = self.compared(600), 0
+        most, last = self.number(600), 0
         while self.words:
             last = self.pair(most, last)
 
@@ -171,7 +167,7 @@ class Reader:
 
     def numbered_proof(self):
         _, words = self.next("proof")
-        count, lenses = words.compared(40_001), Lenses(words.compared(8_000_200))
+        count, lenses = words.number(40_001), Lenses(words.number(8_000_200))
         lenses.end(words, count)
         for _ in range(lenses.total):
             lenses.add(*self.next("lens", "whole"))

@@ -30,7 +30,7 @@ const NO_LENS: &str =
 const NO_VERSION: &str = "pbs-certificate 3\naward 2 0\nproof 0\nproof 0\nend\n";
 
 /// Certificates written anew, and checked in version 2.
-pub(crate) const RESPELT: [Asked; 9] = [
+pub(crate) const RESPELT: [Asked; 10] = [
     (
         &SENIORITY,
         &[],
@@ -83,6 +83,14 @@ pub(crate) const RESPELT: [Asked; 9] = [
         &SENIORITY,
         &[("certificate.txt", NO_VERSION)],
         &["migrate"],
+        Status::No,
+        "no certificate 1 1\n",
+        ("certificate.txt", Some(NO_VERSION)),
+    ),
+    (
+        &SENIORITY,
+        &[("certificate.txt", NO_VERSION)],
+        &["check"],
         Status::No,
         "no certificate 1 1\n",
         ("certificate.txt", Some(NO_VERSION)),

@@ -39,7 +39,16 @@ const UNWANTED: [File; 4] = [
     ),
 ];
 
-/// One member has the name of a vacant line.
+/// The senior member has the name of a vacant line, or the junior one.
+const NAMED_FIRST: [File; 3] = [
+    ("pairings.csv", "pairing,need,credit\nP1,3,5:00\n"),
+    (
+        "crew.csv",
+        "member,low,high\nvacant-1,0:00,90:00\nM2,0:00,90:00\n",
+    ),
+    ("bids.txt", ""),
+];
+
 const NAMED: [File; 3] = [
     ("pairings.csv", "pairing,need,credit\nP1,3,5:00\n"),
     (
@@ -144,8 +153,15 @@ pub(crate) const OPENED: [Opened; 7] = [
 ];
 
 /// Months that are not, and nothing is written.
-pub(crate) const CLOSED: [Opened; 9] = [
+pub(crate) const CLOSED: [Opened; 10] = [
     (&NAMED, &["open", "2"], Status::No, "no open 2 2\n", &[]),
+    (
+        &NAMED_FIRST,
+        &["open", "2"],
+        Status::No,
+        "no open 2 1\n",
+        &[],
+    ),
     (
         &BRANCHING,
         &["open", "3", "--nodes", "1"],
