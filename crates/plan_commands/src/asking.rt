@@ -256,6 +256,7 @@ fn again(
     ensures miss { IfErr result (IsMiss question.now nodes) }
 {
     let mut closer = Rounds::new(alloc, &question.other, ROUNDS)?;
+    closer.learn(alloc, &question.other, roster, &question.awarded)?;
     let mut ledger = Ledger::new(alloc, nodes, ROUNDS)?;
     match what_if(
         alloc,

@@ -6,7 +6,7 @@ use crate::closing::close_node;
 use branch_log::{Closer, Verdict};
 use duty_calendar::Memory;
 use node_guesses::Guide;
-use roster_model::{BidRef, Goal, Node, Problem};
+use roster_model::{Awarded, BidRef, Goal, Node, Problem, Roster};
 use std::alloc::Global;
 use std::marker::Model;
 
@@ -45,6 +45,20 @@ impl Rounds {
             pairings: problem.base.pairings.len(),
             guide: Guide::new(alloc, problem)?,
         })
+    }
+
+    /// Learns from the award of a problem that differs by little, so that the guesses at this one begin with its lines and
+    /// weights. They are tested as ever.
+    pub fn learn(
+        &mut self,
+        alloc: Global,
+        problem: &Problem,
+        roster: &Roster,
+        awarded: &Awarded,
+    ) -> Result<(), Memory>
+        ensures same { self.new ≡ self.old }
+    {
+        self.guide.learn(alloc, problem, roster, awarded)
     }
 }
 

@@ -1,0 +1,124 @@
+//! What a guide learns from the award of a problem that differs by little.
+
+use crate::guide::Guide;
+use duty_calendar::{Copied, Memory};
+use line_mixes::{Board, Care, Columns, Kept, Mix, Program};
+use roster_model::{Awarded, Goal, Item, Problem, Proof, Roster};
+use std::alloc::Global;
+
+/// The weights of the first leaf of the proof that has some; none where no leaf has any.
+fn weights_of(alloc: Global, proof: &Proof) -> Result<Vec<i64>, Memory> {
+    for item in proof.as_slice() {
+        if let Item::Weights(weights, _lenses) = item {
+            return widened(alloc, weights.as_slice());
+        }
+    }
+    Ok(Vec::new(alloc))
+}
+
+/// The weights in 64 bits each.
+fn widened(alloc: Global, weights: &[i32]) -> Result<Vec<i64>, Memory> {
+    let mut wide = Vec::new(alloc);
+    for weight in weights {
+        wide.push(i64::from(*weight))?;
+    }
+    Ok(wide)
+}
+
+/// Kept lines of all members.
+fn columns_of(alloc: Global, problem: &Problem, kept: &Kept) -> Result<Columns, Memory> {
+    let goal = Goal::new(alloc);
+    let board = Board::empty(alloc, problem.base.members.len())?;
+    let mut columns = Columns::new(alloc);
+    for member in 0..problem.base.members.len() {
+        columns.append(alloc, kept, &goal, member, &board.row(member), Care::Fine)?;
+    }
+    Ok(columns)
+}
+
+/// One kept line of each member, with these weights as those that were tested last.
+fn mix_with(
+    alloc: Global,
+    problem: &Problem,
+    kept: &Kept,
+    weights: Vec<i64>,
+) -> Result<Mix, Memory> {
+    let columns = columns_of(alloc, problem, kept)?;
+    let first = Mix::begun(alloc, problem, kept, &columns, None)?;
+    let program = Program::begun(alloc, problem, kept, &columns, Some(&first))?;
+    Ok(Mix::of_program(alloc, problem, kept, &columns, &program, weights)?)
+}
+
+impl Guide {
+    /// Keeps the lines of a roster.
+    fn keep_lines(
+        &mut self,
+        alloc: Global,
+        problem: &Problem,
+        roster: &Roster,
+    ) -> Result<(), Memory> {
+        for (member, line) in roster.as_slice().iter().enumerate() {
+            self.kept.keep(alloc, problem, member, line.copy(alloc)?)?;
+        }
+        Ok(())
+    }
+
+    /// Keeps the lines of the rosters that show why bids are denied.
+    fn keep_shown(
+        &mut self,
+        alloc: Global,
+        problem: &Problem,
+        awarded: &Awarded,
+    ) -> Result<(), Memory> {
+        for shown in awarded.shown.as_slice() {
+            if let Some(roster) = &shown.roster {
+                self.keep_lines(alloc, problem, roster)?;
+            }
+        }
+        Ok(())
+    }
+
+    /// Remembers for each place the weights by which its proof closes.
+    fn keep_weights(&mut self, alloc: Global, proofs: &[Proof]) -> Result<(), Memory> {
+        self.learned.truncate(0);
+        for proof in proofs {
+            self.learned.push(weights_of(alloc, proof)?)?;
+        }
+        Ok(())
+    }
+
+    /// Learns from the award of a problem that differs by little: the roster is known, lines of rosters are kept, and the
+    /// roots of each place begin with the weights of its proof. Programs are used from the first relaxation on, since with
+    /// so many lines they soon come to an end.
+    pub fn learn(
+        &mut self,
+        alloc: Global,
+        problem: &Problem,
+        roster: &Roster,
+        awarded: &Awarded,
+    ) -> Result<(), Memory> {
+        self.keep_shown(alloc, problem, awarded)?;
+        self.keep_lines(alloc, problem, roster)?;
+        self.keep_weights(alloc, awarded.proofs.as_slice())?;
+        self.kept.hold_dear(0, 0);
+        self.known.add(alloc, problem, roster)
+    }
+
+    /// Lets the roots of a place begin with the weights that were learned of it, if there are any.
+    pub(crate) fn begin_place(
+        &mut self,
+        alloc: Global,
+        problem: &Problem,
+        place: usize,
+    ) -> Result<(), Memory> {
+        let Some(learned) = self.learned.get(place) else {
+            return Ok(());
+        };
+        if learned.is_empty() {
+            return Ok(());
+        }
+        let weights = Vec::from_slice(alloc, learned)?;
+        self.warm = Some(mix_with(alloc, problem, &self.kept, weights)?);
+        Ok(())
+    }
+}
