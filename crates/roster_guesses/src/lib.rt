@@ -2,16 +2,21 @@
 #![tactic(auto)]
 
 mod chance;
+mod chosen;
+mod covering;
+mod crewing;
 mod diving;
 mod known;
 mod lenses;
 mod mastering;
 mod relaxing;
+mod remainder;
 mod repairing;
 mod testing;
 mod wholes;
 
 pub use chance::Chance;
+pub use covering::cover;
 pub use diving::dive;
 pub use known::{AllKnown, Known};
 pub use lenses::{plainer, plainer_without_line};

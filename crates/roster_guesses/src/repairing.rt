@@ -3,6 +3,7 @@ ghost use Rattle.std.specs.Prelude.{◌≡◌};
 ghost use Rattle.roster_model.specs.Goals.{IsGoal};
 
 use crate::chance::Chance;
+use crate::covering::cover;
 use crate::diving::dive;
 use crate::relaxing::{Relaxed, relax};
 use crate::wholes::whole_of;
@@ -15,8 +16,18 @@ use std::alloc::Global;
 const MIXES: u32 = 30;
 /// How often a dive may fail there.
 const FAILURES: usize = 3;
+/// How many steps are taken to choose kept lines there.
+const STEPS: usize = 50_000;
 /// How often chance is asked for free members.
 const DRAWS: u32 = 200;
+
+/// What is found for a choice of free members: a roster; that there is none; or nothing.
+#[derive(Drop)]
+enum Attempt {
+    Roster(Roster),
+    Closed,
+    Open,
+}
 
 /// The members that are free, and how many there are.
 #[derive(Drop)]
@@ -187,7 +198,7 @@ pub(crate) fn keep_all(
     Ok(())
 }
 
-/// A roster that meets the goal and obeys the board, by its mix or by a dive.
+/// A roster that meets the goal and obeys the board, by its mix; else by a dive, or of kept lines where the month is tight.
 fn solved(
     alloc: Global,
     problem: &Problem,
@@ -195,21 +206,28 @@ fn solved(
     chance: &mut Chance,
     goal: &Goal,
     board: &Board,
-) -> Result<Option<Roster>, Memory>
+    is_tight: bool,
+) -> Result<Attempt, Memory>
     requires goal { IsGoal problem.now goal.now }
 {
     let relaxed = relax(alloc, problem, kept, goal, board, None, MIXES, Care::Rough)?;
     let Relaxed::Open(mix) = relaxed else {
-        return Ok(None);
+        return Ok(Attempt::Closed);
     };
-    if let Some(roster) = whole_of(alloc, problem, kept, goal, &mix)? {
-        return Ok(Some(roster));
+    let mut roster = whole_of(alloc, problem, kept, goal, &mix)?;
+    if roster.is_none() && is_tight {
+        roster = cover(alloc, problem, kept, goal, board, &mix, STEPS)?;
+    } else if roster.is_none() {
+        roster = dive(alloc, problem, kept, chance, goal, board, &mix, FAILURES)?;
     }
-    dive(alloc, problem, kept, chance, goal, board, &mix, FAILURES)
+    match roster {
+        Some(roster) => Ok(Attempt::Roster(roster)),
+        None => Ok(Attempt::Open),
+    }
 }
 
 /// A roster that meets the goal and differs from this one in the lines of a few members, the focus among them; so many
-/// choices of members are tried.
+/// choices of members are tried. In a tight month each choice that leaves no roster makes the next ones greater.
 pub fn repair(
     alloc: Global,
     problem: &Problem,
@@ -220,17 +238,23 @@ pub fn repair(
     base: &[Line],
     mix: &Mix,
     tries: usize,
+    is_tight: bool,
 ) -> Result<Option<Roster>, Memory>
     requires goal { IsGoal problem.now goal.now }
 {
     keep_all(alloc, problem, kept, base)?;
+    let mut more = 0;
     for turn in 0..tries {
-        let size = (turn / 3).saturating_add(4).min(base.len());
+        let size = (turn / 3)
+            .saturating_add(more)
+            .saturating_add(4)
+            .min(base.len());
         let free = Free::chosen(alloc, kept, base, mix, focus, size, chance)?;
         let board = free.board(alloc, problem, base)?;
-        let found = solved(alloc, problem, kept, chance, goal, &board)?;
-        if found.is_some() {
-            return Ok(found);
+        match solved(alloc, problem, kept, chance, goal, &board, is_tight)? {
+            Attempt::Roster(roster) => return Ok(Some(roster)),
+            Attempt::Closed if is_tight => more = more.saturating_add(1),
+            Attempt::Closed | Attempt::Open => {}
         }
     }
     Ok(None)

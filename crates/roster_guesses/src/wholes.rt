@@ -50,7 +50,7 @@ fn is_whole(
 }
 
 /// Appends a line.
-fn append(roster: &mut List<Line>, line: Line) -> Result<(), Memory> {
+pub(crate) fn append(roster: &mut List<Line>, line: Line) -> Result<(), Memory> {
     match roster.push(line) {
         Ok(()) => Ok(()),
         Err(_line) => Err(Memory::NoMemory),
