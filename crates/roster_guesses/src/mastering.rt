@@ -14,6 +14,8 @@ use std::num::{nearest_i64_to_f64, saturating_f64_to_i64};
 const LITTLE: f64 = 0.01;
 /// How many rows a program may have: it takes longer than the searches that it saves where there are more.
 const MOST_ROWS: usize = 300;
+/// Up to how many rows a program is worth its time even where searches are short.
+const FEW_ROWS: usize = 64;
 /// How often something may come into a program in one go.
 const MOST_CHANGES: u32 = 20_000;
 
@@ -36,7 +38,8 @@ enum Tested {
 /// Whether programs are worth their time: some searches are dear, and the rows are few.
 pub(crate) fn is_worth_while(problem: &Problem, kept: &Kept) -> bool {
     let (members, pairings) = (problem.base.members.len(), problem.base.pairings.len());
-    kept.has_dear() && pairings.saturating_add(members) <= MOST_ROWS
+    let rows = pairings.saturating_add(members);
+    rows <= FEW_ROWS || kept.has_dear() && rows <= MOST_ROWS
 }
 
 /// Half way from the first to the second; the second where there is no first.
