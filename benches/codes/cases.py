@@ -337,7 +337,7 @@ OPENED = [
     opencheck("no open 1 2 1", *NAMED),
     opencheck("no certificate 0 2", ("open-none.txt", PRICED)),
     opencheck("no open 3 5 1", ("open-none.txt", "pbs-certificate 2\nnone\nproof 0 0\nend\n")),
-    opencheck("no open 4 2 1 0", ("open-roster.csv", "vacant-1,LON02 BOS04 ROM08 ROM13,35:00,0", "vacant-1,BOS04 ROM08 ROM13,30:00,0")),
+    opencheck("no open 4 2 1 0", ("open-roster.csv", "Ada,LON02 BOS04 BOS13 BOS26,35:00,35", "Ada,BOS04 BOS13 BOS26,30:00,35")),
 ]
 
 CASES = (STATUSES + RULES + FILES + BIDS + CERTIFICATES + ROSTERS + REASONS + LINES + ITEMS + JUDGED + TRADED + CALENDARS
