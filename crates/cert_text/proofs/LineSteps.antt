@@ -1,6 +1,6 @@
 -- Lens lines, one after the other, and the table that they give where none repeats another.
-use Rattle.std.proofs.Common.{◌≡◌, ℕ, zero, suc, ◌+◌, ◌-◌, ◌<◌, ◌≤◌, Bool, true, false, List, [], ◌∷◌, ◌++◌, map, take, length, get_or, Option, Some, None, Bor, inl, inr, refl, sym, ap, subst, ◌∙◌, arith, length-append}
-use Rattle.std.specs.Prelude.{not, Result, Ok, Err, MatchOption, IsErrAnd}
+use Rattle.std.proofs.Common.{◌≡◌, ℕ, zero, suc, ◌+◌, ◌-◌, ◌<◌, ◌≤◌, true, false, List, [], ◌∷◌, ◌++◌, map, take, length, get_or, Option, Some, None, Bor, inl, inr, refl, sym, ap, subst, ◌∙◌, arith, length-append}
+use Rattle.std.specs.Prelude.{Result, Ok, Err, MatchOption, IsErrAnd}
 use Rattle.std.proofs.lemmas.Bool.{cases_lt}
 use Rattle.std.proofs.lemmas.List.{map-append, length-map, get_or-map}
 use Rattle.roster_model.specs.declared.proof.Lens.{Lens}
@@ -10,15 +10,14 @@ use Rattle.cert_text.specs.declared.fault.CertFault.{CertFault}
 use Rattle.cert_text.specs.declared.flaw.Stop.{Stop}
 use Rattle.cert_text.specs.declared.flaw.Stop.TheVariants as stop
 use Rattle.cert_text.specs.Words.{words_of}
-use Rattle.cert_text.specs.Fields.{kept}
-use Rattle.cert_text.specs.Lines.{Rest, Line, and_then, done, cut, line_of, next, says, wrong, stop_told, Reads, ReadsAs}
+use Rattle.cert_text.specs.Lines.{Rest, Line, and_then, cut, line_of, next, says, stop_told, Reads, ReadsAs}
 use Rattle.cert_text.specs.Forms.{kept_new}
 use Rattle.cert_text.specs.Spelling.{lens_word, lens_words, lens_key, words_text, is_kept}
 use Rattle.cert_text.specs.Reading.{lens_in, added, lens_into, no_lens, lens_of, lens_at, table_from}
 use Rattle.cert_text.specs.Places.{AreFresh, AreFreshTo}
 use Rattle.cert_text.specs.LensLines.{texts, lenses_of, EndsAtRepeat}
 use Rattle.cert_text.proofs.LineLaws.{read_as, ok_is, then_ok, words_takes}
-use Rattle.cert_text.proofs.KeyLaws.{Key, length_more, get_last, fresh_there, take_length}
+use Rattle.cert_text.proofs.KeyLaws.{Key, length_more, get_last, fresh_there}
 use Rattle.cert_text.proofs.NumberedLaws.{keys_of, lens_in_takes}
 
 abbrev Read : Type 0

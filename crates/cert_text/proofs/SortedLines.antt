@@ -1,23 +1,23 @@
 -- The least line that repeats its neighbour, among lines that are sorted, is the first one that repeats an earlier one.
-use Rattle.std.proofs.Common.{◌≡◌, ℕ, zero, suc, ◌+◌, ◌-◌, ◌*◌, ◌^◌, ◌%◌, ◌<◌, ◌≤◌, Bool, true, false, ◌&&◌, List, [], ◌∷◌, ◌++◌, map, take, drop, drop-cons, add-one, length, get_or, Bor, Ordering, Less, Equal, Greater, nat_cmp, is_eq, is_lt, bytes_eq, IsPermutation, IsSorted, inl, inr, refl, sym, ap, subst, ◌∙◌, arith, true≢false, nat_eq}
-use Rattle.std.specs.Prelude.{nat_lt, ◌==◌, min, if◌then◌else◌}
+use Rattle.std.proofs.Common.{◌≡◌, ℕ, zero, suc, ◌+◌, ◌-◌, ◌*◌, ◌^◌, ◌%◌, ◌<◌, ◌≤◌, Bool, true, false, List, [], ◌∷◌, ◌++◌, take, drop, drop-cons, add-one, length, get_or, Bor, Ordering, Less, Equal, Greater, nat_cmp, is_eq, is_lt, IsPermutation, IsSorted, inl, inr, refl, sym, ap, subst, ◌∙◌, arith, true≢false}
+use Rattle.std.specs.Prelude.{nat_lt, min, if◌then◌else◌}
 use Rattle.std.specs.Cmp.{IsTotalOrder}
-use Rattle.std.specs.List.{All, Contains}
-use Rattle.std.specs.Cmp.Lexicographic.{slice_cmp, pointwise}
+use Rattle.std.specs.List.{All}
+use Rattle.std.specs.Cmp.Lexicographic.{slice_cmp}
 use Rattle.std.specs.Ordering.{ordering_reverse, ordering_then}
 use Rattle.std.proofs.lemmas.Bool.{cases_lt}
 use Rattle.std.proofs.lemmas.Bool.Decides.{nat_tests}
 use Rattle.std.proofs.lemmas.Cmp.{nat_list_cmp_total, nat_cmp_total, on_total, then_total}
-use Rattle.std.proofs.lemmas.List.{get_or_default, get_or-map, length-map, get_or-take, length-take}
+use Rattle.std.proofs.lemmas.List.{get_or_default, get_or-map, length-map, get_or-take}
 use Rattle.std.proofs.lemmas.List.Elements.{Contains-get_or}
 use Rattle.std.proofs.lemmas.List.MinMax.{ranks_by}
-use Rattle.std.proofs.lemmas.List.Sorted.{All-permutation, Contains-permutation, length_permutation, sorted_far}
+use Rattle.std.proofs.lemmas.List.Sorted.{All-permutation, Contains-permutation, sorted_far}
 use Rattle.std.proofs.lemmas.Map.Keys.{ge_from_not_lt}
 use Rattle.std.proofs.lemmas.Map.Lookups.{exact_unsigned}
 use Rattle.std.proofs.lemmas.Map.Text.{is_eq-slice_cmp}
 use Rattle.std.proofs.lemmas.Slice.Eq.{bytes_eq-Decides}
 use Rattle.cert_text.specs.Spelling.{is_kept, place_in}
-use Rattle.cert_text.specs.Places.{AreFresh, AreFreshTo}
+use Rattle.cert_text.specs.Places.{AreFreshTo}
 use Rattle.cert_text.specs.LensLines.{texts}
 use Rattle.cert_text.specs.Sorting.{digest_from, Placed, ArePairs, pair_cmp, is_repeat, lower, RepeatsAt, IsLeast}
 use Rattle.cert_text.proofs.KeyLaws.{Key, same, same_is, same_self, placed, kept_at, take_length}

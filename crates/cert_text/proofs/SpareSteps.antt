@@ -1,6 +1,6 @@
 -- Whether so many items can use so many lenses, digit by digit.
-use Rattle.std.proofs.Common.{◌≡◌, ℕ, zero, suc, ◌+◌, ◌-◌, ◌*◌, ◌<◌, ◌≤◌, Bool, true, false, List, [], ◌∷◌, ◌++◌, take, length, get_or, replicate, refl, sym, ap, ◌∙◌, arith, inl, inr}
-use Rattle.std.specs.Prelude.{min, nat_lt, nat_le}
+use Rattle.std.proofs.Common.{◌≡◌, ℕ, zero, suc, ◌+◌, ◌-◌, ◌*◌, ◌<◌, ◌≤◌, true, false, List, [], ◌∷◌, ◌++◌, take, length, get_or, replicate, refl, sym, ap, ◌∙◌, arith, inl, inr}
+use Rattle.std.specs.Prelude.{min, nat_le}
 use Rattle.std.specs.Char.{is_ascii_digit}
 use Rattle.std.specs.Str.{all_ascii_digits}
 use Rattle.std.proofs.lemmas.Bool.{cases_lt}
@@ -8,8 +8,8 @@ use Rattle.std.proofs.lemmas.Bool.Decides.{nat_tests}
 use Rattle.cert_text.specs.Fields.{is_number, size}
 use Rattle.cert_text.specs.Forms.{is_enough}
 use Rattle.cert_text.proofs.Numerals.{read_on, both}
-use Rattle.cert_text.proofs.Order.{IsSpelt, digit_range}
-use Rattle.cert_text.proofs.PlaceWords.{IsNumeral, numeral}
+use Rattle.cert_text.proofs.Order.{digit_range}
+use Rattle.cert_text.proofs.PlaceWords.{numeral}
 
 -- digits behind so many zeros
 abbrev pub padded : ℕ → List ℕ → List ℕ

@@ -1,14 +1,10 @@
 -- The arcs that lead to a place.
-use Rattle.std.proofs.Common.{◌≡◌, ◌≢◌, ℕ, ◌+◌, ◌*◌, ◌<◌, ◌≤◌, List, [], ◌∷◌, ◌++◌, Bool, true, false, cond, Some, inl, inr, refl, sym, ◌∙◌, ap, subst, arith, length, length-append, take, get_or, eq-eqb, set, map, Vec}
+use Rattle.std.proofs.Common.{◌≡◌, ◌≢◌, ℕ, ◌+◌, ◌*◌, ◌<◌, ◌≤◌, List, [], ◌∷◌, ◌++◌, Some, inl, inr, refl, sym, ◌∙◌, ap, subst, arith, length, get_or, set, map, Vec}
 use Rattle.std.specs.declared.alloc.Global.{Global}
-use Rattle.std.specs.Prelude.{Contains, slice_get, All, count_by, ◌==◌, nat_lt, option_map}
-use Rattle.std.proofs.lemmas.Bool.Decides.{nat_tests}
+use Rattle.std.specs.Prelude.{Contains, slice_get, All, option_map}
 use Rattle.std.proofs.lemmas.Option.{slice_get_read, slice_get_within, slice_get-map}
 use Rattle.std.proofs.lemmas.List.{map-set}
-use Rattle.std.proofs.Math.Seq.{take-length}
 use Rattle.std.proofs.lemmas.List.Elements.{All-nil, All-push, All-map, All-contains, Contains-push, Contains-append_left}
-use Rattle.std.proofs.lemmas.List.Sums.{count_by_more_yes, count_by_more_no}
-use Rattle.std.proofs.lemmas.List.Recursion.{is_count_by}
 use Rattle.std.proofs.Math.Nat.{mul-le-mul_left}
 use Rattle.label_setter.proofs.ListReads.{below_or_at, contains_read, same_or_not, same_some, set_read_same, set_read_other}
 use Rattle.label_setter.specs.declared.graph.Arc.{Arc}

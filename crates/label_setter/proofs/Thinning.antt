@@ -1,5 +1,5 @@
 -- What is left of labels, and labels that are found one after another.
-use Rattle.std.proofs.Common.{◌≡◌, ℕ, ℤ, ◌≤ℤ◌, ◌++◌, ◌+◌, List, [], ◌∷◌, Bool, true, Option, Some, ap, ◌∙◌, ◌⊎◌, inl, inr, refl, sym, subst, arith, length, take, drop}
+use Rattle.std.proofs.Common.{◌≡◌, ℕ, ℤ, ◌≤ℤ◌, ◌++◌, ◌+◌, List, [], ◌∷◌, Bool, true, Option, Some, ap, ◌∙◌, inl, inr, sym, subst, arith, length, take, drop}
 use Rattle.std.specs.Prelude.{Contains, slice_get}
 use Rattle.std.specs.List.Sorted.{IsPermutation}
 use Rattle.std.proofs.lemmas.Int.{ints}

@@ -1,13 +1,12 @@
 -- No line has more pairings of a kind than the month.
-use Rattle.std.proofs.Common.{◌≡◌, ℕ, ◌<◌, ◌≤◌, ◌+◌, Bool, true, false, cond, List, [], ◌∷◌, Option, Some, None, length, refl, ap, sym, ◌∙◌, subst, arith}
-use Rattle.std.specs.Prelude.{All, count_by, nat_le, slice_get}
+use Rattle.std.proofs.Common.{◌≡◌, ℕ, ◌<◌, ◌≤◌, ◌+◌, Bool, true, false, cond, List, [], ◌∷◌, Option, length, refl, ap, sym, ◌∙◌, subst, arith}
+use Rattle.std.specs.Prelude.{All, count_by}
 use Rattle.std.specs.Option.{option_map_or}
 use Rattle.std.proofs.lemmas.Bool.{and_parts, leb-true}
-use Rattle.std.proofs.lemmas.Bool.Decides.{nat_tests}
 use Rattle.std.proofs.lemmas.List.Elements.{All-head, All-tail}
 use Rattle.std.proofs.lemmas.List.Recursion.{is_count_by}
 use Rattle.duty_calendar.specs.Minutes.{count_between}
-use Rattle.duty_calendar.proofs.Counting.{count_between-append, count_between-none, count_between-one}
+use Rattle.duty_calendar.proofs.Counting.{count_between-append, count_between-one}
 use Rattle.roster_model.specs.declared.bid.Bid.{Bid}
 use Rattle.roster_model.specs.declared.bid.Wish.{Wish}
 use Rattle.roster_model.specs.declared.bid.Wish.TheVariants.{Fly, Avoid, Prefer, Off, CreditBelow, CreditAbove, DaysOff}
@@ -16,7 +15,7 @@ use Rattle.roster_model.specs.declared.problem.Problem.{Problem}
 use Rattle.roster_model.specs.declared.proof.Lens.{Lens}
 use Rattle.roster_model.specs.Ascending.{ascends_from, is_ascending}
 use Rattle.roster_model.specs.Filters.{is_kept}
-use Rattle.roster_model.specs.Scores.{bids_of, is_granted, is_granting}
+use Rattle.roster_model.specs.Scores.{is_granting}
 use Rattle.lens_classes.specs.TermLines.{IsTermLine}
 use Rattle.lens_classes.specs.declared.terms.Terms.{Terms}
 use Rattle.line_generator.specs.Scarce.{CountsScarce, IsScarce}

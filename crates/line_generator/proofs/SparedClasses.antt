@@ -1,28 +1,26 @@
 -- Classes that ask more than others and gain nothing: terms that ask no more have their lines.
-use Rattle.std.proofs.Common.{◌≡◌, ℕ, ◌<◌, ◌≤◌, Bool, true, false, not, ◌&&◌, ◌==◌, ◌+◌, List, Option, Some, None, length, refl, ap, sym, ◌∙◌, subst, arith}
-use Rattle.std.specs.Prelude.{bit_and, max, min, nat_lt, slice_get, sum_by, if◌then◌else◌}
+use Rattle.std.proofs.Common.{◌≡◌, ℕ, ◌<◌, ◌≤◌, Bool, true, false, not, ◌&&◌, ◌+◌, refl, ap, sym, ◌∙◌, subst, arith}
+use Rattle.std.specs.Prelude.{bit_and, max, nat_lt, sum_by, if◌then◌else◌}
 use Rattle.std.specs.Int.{bit_at}
 use Rattle.std.specs.List.{enumerate_from}
 use Rattle.std.proofs.Math.Path.{fun_ext}
 use Rattle.std.proofs.lemmas.Bool.{false≢true}
 use Rattle.std.proofs.lemmas.Bool.Decides.{nat_tests}
 use Rattle.std.proofs.lemmas.Nat.Bits.{bit_at-lt, bit_at_and}
-use Rattle.roster_model.specs.declared.bid.Bid.{Bid}
 use Rattle.roster_model.specs.declared.bid.Wish.{Wish}
 use Rattle.roster_model.specs.declared.bid.Wish.TheVariants.{Fly, Avoid, Prefer, Off, CreditBelow, CreditAbove, DaysOff}
 use Rattle.roster_model.specs.declared.goal.Goal.{Goal}
-use Rattle.roster_model.specs.declared.node.Decision.{Decision}
 use Rattle.roster_model.specs.declared.problem.Problem.{Problem}
 use Rattle.roster_model.specs.declared.proof.Lens.{Lens}
 use Rattle.roster_model.specs.Legality.{high_of}
-use Rattle.roster_model.specs.Lenses.{is_tracked, is_whole}
+use Rattle.roster_model.specs.Lenses.{is_tracked}
 use Rattle.roster_model.specs.Scores.{bids_of}
-use Rattle.lens_classes.specs.Classes.{IsClass, IsClassLens, IsImplied, IsTerms, beyond_for, class_beyond, is_counting, is_in}
+use Rattle.lens_classes.specs.Classes.{IsClass, IsClassLens, IsImplied, IsTerms, beyond_for, class_beyond, is_in}
 use Rattle.lens_classes.specs.Laws.{IsWider}
-use Rattle.lens_classes.specs.TermLines.{is_counted, loose_weight}
+use Rattle.lens_classes.specs.TermLines.{loose_weight}
 use Rattle.lens_classes.specs.declared.terms.Terms.{Terms}
 use Rattle.lens_classes.proofs.Wider.{wider_passes}
-use Rattle.line_generator.specs.ClassLines.{AllBelow, HasLinesOf, IsClassLine, IsImpliedBy, IsSpared, KeepsImplied, spread}
+use Rattle.line_generator.specs.ClassLines.{HasLinesOf, IsImpliedBy, IsSpared, KeepsImplied, spread}
 
 -- a number that has all its bits in common with another
 pub in_both : (a b bid : ℕ) → bit_and a b ≡ a → is_in a bid ≡ true → is_in b bid ≡ true

@@ -1,5 +1,5 @@
 -- Certificates of tidy proofs and parts have a text that is read and is not too long.
-use Rattle.std.proofs.Common.{◌≡◌, ℕ, ◌+◌, ◌*◌, ◌^◌, ◌<◌, ◌≤◌, Bool, true, List, [], ◌∷◌, ◌++◌, length, decimal, codes, refl, arith, length-append}
+use Rattle.std.proofs.Common.{◌≡◌, ℕ, ◌+◌, ◌*◌, ◌≤◌, List, [], ◌∷◌, ◌++◌, length, decimal, codes, refl, arith, length-append}
 use Rattle.std.specs.List.{flat_map}
 use Rattle.std.proofs.lemmas.Bool.{and_from}
 use Rattle.roster_model.specs.declared.proof.Item.{Item}
@@ -8,7 +8,6 @@ use Rattle.roster_model.specs.declared.award.Certificate.{Certificate}
 use Rattle.roster_model.specs.declared.award.Certificate.TheVariants as form
 use Rattle.roster_model.specs.Splits.{splits_in, all_splits, shown_splits}
 use Rattle.cert_text.specs.declared.limits.TheConstants.{MOST_PROOFS, MOST_SHOWN}
-use Rattle.cert_text.specs.Limits.{is_few, is_proof, is_shown}
 use Rattle.cert_text.specs.Spelling.{line_text, proof_text, shown_text, body_text, certificate_text}
 use Rattle.cert_text.specs.declared.version.Version.TheVariants.{Two}
 use Rattle.month_award.specs.Months.{IsWritable}

@@ -1,6 +1,6 @@
 -- Closing proofs: how many items they have for their splits, that they are within the limits, and how long they are.
-use Rattle.std.proofs.Common.{◌≡◌, ℕ, zero, suc, ◌+◌, ◌*◌, ◌^◌, ◌<◌, ◌≤◌, Bool, true, false, cond, List, [], ◌∷◌, ◌++◌, length, decimal, codes, Some, refl, sym, ap, ◌∙◌, arith, append_assoc, length-append, mul-add, mul-one}
-use Rattle.std.specs.Prelude.{sum_by, count_by, slice_get}
+use Rattle.std.proofs.Common.{◌≡◌, ℕ, suc, ◌+◌, ◌*◌, ◌≤◌, Bool, true, false, cond, List, [], ◌∷◌, ◌++◌, length, decimal, codes, Some, refl, sym, ap, ◌∙◌, arith, append_assoc, length-append, mul-add, mul-one}
+use Rattle.std.specs.Prelude.{slice_get}
 use Rattle.std.specs.List.{flat_map, list_all}
 use Rattle.std.proofs.lemmas.Bool.{and_from}
 use Rattle.std.proofs.lemmas.List.Folds.{list_all-append}
@@ -14,7 +14,7 @@ use Rattle.roster_model.specs.Decided.{decided}
 use Rattle.roster_model.specs.Closing.{Closes, by_leaf, by_split, IsAccepted, IsOpenPair}
 use Rattle.roster_model.specs.Splits.{is_split, splits_in, all_splits}
 use Rattle.cert_text.specs.declared.limits.TheConstants.{MOST_ITEMS}
-use Rattle.cert_text.specs.Limits.{is_few, is_item, is_proof}
+use Rattle.cert_text.specs.Limits.{is_item, is_proof}
 use Rattle.cert_text.proofs.KeyLaws.{after_length}
 use Rattle.cert_text.specs.Spelling.{line_text, item_text, lenses_of, keys_after, all_keys, numbered_item_text, numbered_items_text, proof_text}
 use Rattle.cert_text.specs.declared.version.Version.TheVariants.{Two}

@@ -9,7 +9,7 @@ use Rattle.roster_model.specs.declared.award.Shown.{Shown}
 use Rattle.roster_model.specs.declared.award.Certificate.TheVariants as form
 use Rattle.roster_model.specs.Rosters.{scores_of}
 use Rattle.roster_model.specs.Awards.{IsBest, above_at, no_goal}
-use Rattle.roster_model.specs.Lawful.{AreGreatest, IsLawful, IsBidGoal, most_searches, total_bids, bid_count}
+use Rattle.roster_model.specs.Lawful.{AreGreatest, IsLawful, IsBidGoal, most_searches, bid_count}
 use Rattle.roster_model.specs.Ledgers.{pairs_of}
 use Rattle.roster_model.specs.Splits.{splits_in, all_splits, shown_splits}
 use Rattle.roster_model.proofs.Bounds.{total_bids-bound}

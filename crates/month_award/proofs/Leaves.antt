@@ -1,7 +1,6 @@
 -- Items that close a node, and splits on open pairs: they are within the limits of certificates, and short.
-use Rattle.std.proofs.Common.{◌≡◌, ℕ, ◌+◌, ◌*◌, ◌^◌, ◌<◌, ◌≤◌, Bool, true, false, ℤ, List, [], ◌∷◌, ◌++◌, length, map, decimal, codes, Some, refl, ap, ◌∙◌, arith, zero, suc, length-append}
-use Rattle.std.specs.Prelude.{All, slice_get}
-use Rattle.std.specs.List.{flat_map, list_all}
+use Rattle.std.proofs.Common.{◌≡◌, ℕ, ◌+◌, ◌<◌, ◌≤◌, true, false, ℤ, List, [], ◌∷◌, length, decimal, codes, refl, arith, zero, suc, length-append}
+use Rattle.std.specs.Prelude.{All}
 use Rattle.std.proofs.lemmas.Bool.{and_from}
 use Rattle.std.proofs.lemmas.List.Sums.{list_all-from_AllPass}
 use Rattle.std.proofs.lemmas.Option.{slice_get-get_or}
@@ -15,9 +14,8 @@ use Rattle.roster_model.specs.Closing.{IsAccepted, IsOpenPair}
 use Rattle.roster_model.specs.Lenses.{AreLenses, IsOutweighed}
 use Rattle.roster_model.specs.Splits.{is_split}
 use Rattle.cert_text.specs.declared.limits.TheConstants.{MOST_LENSES, MOST_ENTRIES}
-use Rattle.cert_text.specs.Limits.{is_few, is_index, is_weight, is_lens, is_item}
-use Rattle.cert_text.proofs.KeyLaws.{after_length}
-use Rattle.cert_text.specs.Spelling.{words_text, line_text, index_text, item_text, number_text, numbers_text, keys_after, entries_text, lenses_of, numbered_item_text}
+use Rattle.cert_text.specs.Limits.{is_weight, is_lens, is_item}
+use Rattle.cert_text.specs.Spelling.{line_text, index_text, item_text, number_text, numbers_text, keys_after, entries_text, lenses_of, numbered_item_text}
 use Rattle.month_award.proofs.Numbers.{within, HasSmallNumbers, lens-numbers, lens-fits, weight-fits, index-fits}
 use Rattle.month_award.proofs.Lengths.{three-digits, words-more, words-one, line-length, entries-length, number-of_lens, numbers-of_lenses, lens_lines, lines-more}
 

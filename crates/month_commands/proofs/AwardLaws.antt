@@ -25,7 +25,7 @@ use Rattle.month_commands.specs.declared.award_stop.Finding.{Finding}
 use Rattle.month_commands.specs.declared.award_stop.Miss.{Miss}
 use Rattle.month_commands.specs.declared.award_stop.Miss.TheVariants as miss
 use Rattle.month_files.specs.declared.writing.Unwritten.{Unwritten}
-use Rattle.month_commands.specs.Award.{Finds, IsFinding, IsFound, IsBadMonth, OfMonth, SpendsBudget, IsAward, IsAwardHanded, awarding_order}
+use Rattle.month_commands.specs.Award.{IsFinding, IsFound, IsBadMonth, OfMonth, SpendsBudget, IsAward, IsAwardHanded, awarding_order}
 use Rattle.month_commands.specs.AwardEnds.{miss_stop}
 use Rattle.month_commands.specs.AwardEnds.{AwardCause, award_written}
 use Rattle.month_files.specs.Writes.{Leaves, IsStop}

@@ -1,5 +1,5 @@
 -- The texts of a made month are short.
-use Rattle.std.proofs.Common.{◌≡◌, ℕ, ◌+◌, ◌*◌, ◌/◌, ◌%◌, ◌<◌, ◌≤◌, ◌^◌, List, [], ◌∷◌, ◌++◌, length, length-append, map, decimal, codes, Option, Some, None, refl, sym, ap, subst, ◌∙◌, arith}
+use Rattle.std.proofs.Common.{◌≡◌, ℕ, ◌+◌, ◌*◌, ◌/◌, ◌%◌, ◌<◌, ◌≤◌, ◌^◌, List, [], ◌∷◌, ◌++◌, length, length-append, map, decimal, codes, Option, Some, None, refl, sym, ap, subst, arith}
 use Rattle.std.specs.Prelude.{All, IsTrue, true, ◌==◌, pos}
 use Rattle.std.specs.List.{flat_map, range_with_len}
 use Rattle.std.specs.Option.{ForSome}
@@ -8,12 +8,12 @@ use Rattle.std.proofs.lemmas.List.Concat.{flat_map-cons}
 use Rattle.std.proofs.lemmas.List.Elements.{All-head, All-tail}
 use Rattle.bid_language.specs.Spelling.{bid_text, bid_lines, member_text, member_lines, all_lines, bids_text}
 use Rattle.crew_files.specs.Crew.{crew_header}
-use Rattle.crew_files.specs.Events.{event_header, part_of}
+use Rattle.crew_files.specs.Events.{event_header}
 use Rattle.crew_files.specs.Texts.{crew_fields, crew_text, events_of_member, events_text}
 use Rattle.crew_files.specs.declared.part.Part.{Part}
 use Rattle.crew_files.specs.declared.part.Part.TheVariants.{History as Past, Fixed as Given}
 use Rattle.duty_calendar.specs.Checks.{IsDuty, IsPairing, ArePairings, IsMember, AreMembers}
-use Rattle.duty_calendar.specs.Forms.{is_name, is_station_code, are_capitals}
+use Rattle.duty_calendar.specs.Forms.{is_station_code, are_capitals}
 use Rattle.duty_calendar.specs.declared.horizon.Horizon.{Horizon}
 use Rattle.duty_calendar.specs.declared.member.Member.{Member}
 use Rattle.duty_calendar.specs.declared.pairing.Duty.{Duty}
@@ -21,7 +21,7 @@ use Rattle.duty_calendar.specs.declared.pairing.Leg.{Leg}
 use Rattle.duty_calendar.specs.declared.pairing.Pairing.{Pairing}
 use Rattle.field_text.specs.Rows.{line, line_end}
 use Rattle.field_text.specs.Spelling.{two, number_text, minutes_text, moment_text, day_text, clock_text}
-use Rattle.instance_maker.specs.Months.{IsMade, AreMadeRules, home, member}
+use Rattle.instance_maker.specs.Months.{IsMade, home, member}
 use Rattle.month_files.specs.Drafts.{inputs_of}
 use Rattle.month_files.specs.Reading.{AreShort}
 use Rattle.pairing_files.specs.Columns.{pairings_header, duties_header, legs_header}

@@ -1,6 +1,5 @@
 -- What `check` says of the texts that its reads handed in, be files told or not.
 use Rattle.std.specs.Prelude.{◌≡◌, ◌≤◌, List, [], ◌∷◌, ◌++◌, length, Result, Ok, Err}
-use Rattle.shelf.specs.Files.{Files}
 use Rattle.shelf.specs.Logs.{Entries}
 use Rattle.roster_model.specs.declared.problem.Problem.{Problem}
 use Rattle.roster_model.specs.declared.award.Certificate.{Certificate}

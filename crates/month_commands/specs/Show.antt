@@ -1,5 +1,5 @@
 -- What `show` finds in the files of a folder: the month of a member.
-use Rattle.std.specs.Prelude.{◌≡◌, ◌++◌, [], ◌∷◌, ℕ, List, Option, Some, None, Result, Ok, Err, Vec}
+use Rattle.std.specs.Prelude.{◌≡◌, ◌++◌, [], ◌∷◌, ℕ, List, Some, None, Result, Ok, Err, Vec}
 use Rattle.std.specs.declared.alloc.Global.{Global}
 use Rattle.shelf.specs.Files.{Files}
 use Rattle.shelf.specs.Logs.{Entries}

@@ -5,7 +5,6 @@ use Rattle.bid_language.specs.Spelling.{bids_text}
 use Rattle.crew_files.specs.Files.{members_of}
 use Rattle.crew_files.specs.Texts.{crew_text, events_text}
 use Rattle.crew_files.specs.declared.part.Part.TheVariants.{History as Past, Fixed as Given}
-use Rattle.duty_calendar.specs.declared.member.Base.{Base}
 use Rattle.month_files.specs.Drafts.{inputs_of, input_drafts, rules_drafts, pairings_drafts, members_drafts}
 use Rattle.month_files.specs.Months.{Names}
 use Rattle.month_files.specs.declared.file.File.{File}

@@ -1,6 +1,5 @@
 -- The outcome of a command that writes what it finds, what is said of it, and what its reads handed in.
 use Rattle.std.proofs.Common.{◌≡◌, ℕ, List, Option, Some, Result, Ok, Err, inl, inr, refl, sym, ap, subst, ◌∙◌, cond}
-use Rattle.std.specs.Str.{bytes_eq}
 use Rattle.std.specs.FinMap.{insert, get-insert}
 use Rattle.std.proofs.lemmas.Cmp.{nat_list_cmp_total}
 use Rattle.std.proofs.lemmas.Map.Text.{is_eq-slice_cmp}

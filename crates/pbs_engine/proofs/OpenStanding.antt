@@ -50,7 +50,6 @@ use Rattle.answer_texts.specs.declared.status.Status.{Status}
 use Rattle.pbs_engine.specs.AwardHeadline.{Tells}
 use Rattle.pbs_engine.specs.OpenHeadline.{BelowIsWritten, HasOpenedMonth, HasUnopenable, IsOpenedMonth, IsUnopenable, OpenIsWritten, Opens, OpensRead, OthersAreKept, UnopenableIsWritten}
 use Rattle.pbs_engine.specs.Outcomes.{status_of, text_of, written_by, IsRight, IsHandedIn}
-use Rattle.pbs_engine.specs.Rows.{HasShown}
 use Rattle.pbs_engine.specs.Runs.{Shelved, Sunk, ComesTo, Says}
 use Rattle.pbs_engine.specs.declared.outcome.Outcome.{Outcome}
 use Rattle.pbs_engine.specs.declared.outcome.Outcome.TheVariants as outcome

@@ -1,10 +1,10 @@
 -- The files of a folder have `open` end in one way, but for what the search finds.
-use Rattle.std.proofs.Common.{◌≡◌, ◌≢◌, ℕ, List, Result, Ok, Err, inl, inr, refl, sym, subst, ◌∙◌, arith}
+use Rattle.std.proofs.Common.{◌≡◌, ◌≢◌, ℕ, Result, Ok, Err, inl, inr, refl, sym, subst, ◌∙◌, arith}
 use Rattle.std.specs.Prelude.{◌⊎◌}
 use Rattle.shelf.specs.Files.{Files}
 use Rattle.month_commands.specs.Award.{OfMonth, HasBadMonth}
 use Rattle.month_files.proofs.OneMonth.{one_problem, never_both}
-use Rattle.month_files.specs.Months.{Names, HasFault}
+use Rattle.month_files.specs.Months.{Names}
 use Rattle.month_files.specs.Reading.{Inputs, texts_in}
 use Rattle.month_files.specs.declared.fault.InputFault.{InputFault}
 use Rattle.month_files.specs.declared.unread.Unread.{Unread}

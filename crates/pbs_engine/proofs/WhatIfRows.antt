@@ -1,5 +1,5 @@
 -- What an end of `whatif` says, which way leads to it, and which counts it speaks of.
-use Rattle.std.proofs.Common.{◌≡◌, ℕ, List, Result, Ok, Err, inl, inr, refl, subst}
+use Rattle.std.proofs.Common.{◌≡◌, ℕ, List, Result, Ok, Err, inl, inr, refl}
 use Rattle.std.specs.Prelude.{◌⊎◌}
 use Rattle.shelf.specs.Files.{Files}
 use Rattle.shelf.specs.declared.tally.Tally.{Tally}

@@ -1,5 +1,5 @@
 -- What an end of `whatif` says of the files before and after it, told or handed in.
-use Rattle.std.proofs.Common.{◌≡◌, ℕ, ◌≤◌, List, map, take, length, Option, Some, Result, Ok, Err, refl, sym, ap, subst, ◌∙◌, arith}
+use Rattle.std.proofs.Common.{◌≡◌, ℕ, List, map, take, length, Option, Some, Result, Ok, Err, refl, sym, ap, subst, ◌∙◌, arith}
 use Rattle.std.proofs.lemmas.List.{length-take-le}
 use Rattle.std.specs.FinMap.{insert}
 use Rattle.shelf.specs.Files.{Files, file}
@@ -18,7 +18,7 @@ use Rattle.month_files.specs.declared.unread.Unread.TheVariants as unread
 use Rattle.month_files.specs.declared.writing.Draft.{Draft}
 use Rattle.month_files.specs.declared.writing.WriteStop.{WriteStop}
 use Rattle.month_files.specs.declared.writing.WriteStop.TheVariants as write
-use Rattle.plan_commands.specs.Asking.{Asked, asked_in, Claimed, IsAskedIn, OfClaim, MayAnswer, IsAnswered, IsSpent, HasWhatIf, IsRun, IsRunHanded, asking_order}
+use Rattle.plan_commands.specs.Asking.{Asked, asked_in, Claimed, IsAskedIn, OfClaim, MayAnswer, IsSpent, HasWhatIf, IsRun, IsRunHanded, asking_order}
 use Rattle.plan_commands.specs.AskingEnds.{whatif_written}
 use Rattle.plan_commands.specs.declared.asking.Question.{Question}
 use Rattle.plan_commands.specs.declared.asking_stop.WhatIf.{WhatIf}

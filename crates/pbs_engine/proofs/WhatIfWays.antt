@@ -1,5 +1,5 @@
 -- The files of a folder have `whatif` end in one way, but for what the search finds.
-use Rattle.std.proofs.Common.{◌≡◌, ◌≢◌, ℕ, List, [], Option, Some, None, Result, Ok, Err, inl, inr, refl, sym, ap, subst, ◌∙◌}
+use Rattle.std.proofs.Common.{◌≡◌, ◌≢◌, ℕ, List, [], Option, Some, None, Result, Ok, Err, inl, inr, refl, sym, subst, ◌∙◌}
 use Rattle.std.specs.Prelude.{◌⊎◌, slice_get, unwrap_or}
 use Rattle.shelf.specs.Files.{Files}
 use Rattle.bid_language.specs.Lines.{bids_in}
@@ -10,7 +10,7 @@ use Rattle.month_files.proofs.OneMonth.{one_problem, never_both}
 use Rattle.month_files.specs.Months.{Names, HasFault}
 use Rattle.month_files.specs.declared.fault.InputFault.{InputFault}
 use Rattle.month_files.specs.declared.unread.Unread.{Unread}
-use Rattle.plan_commands.specs.Asking.{Asked, asked_in, Claimed, claimed_in, IsAskedIn, MayAnswer, OfAsked, OfClaim, HasOtherFault, HasUnasked, EndsReading, NamesMember, IsStanding}
+use Rattle.plan_commands.specs.Asking.{Asked, asked_in, Claimed, claimed_in, IsAskedIn, OfClaim, HasUnasked, EndsReading, IsStanding}
 use Rattle.plan_commands.specs.declared.asking.Question.{Question}
 use Rattle.plan_commands.specs.declared.asking_stop.Unasked.{Unasked}
 use Rattle.plan_commands.specs.declared.asking_stop.Unasked.TheVariants as unasked

@@ -1,6 +1,6 @@
 -- What an answer of `open` says of the files of a folder: of the month in them with vacant lines, and of what they hold
 -- afterwards.
-use Rattle.std.specs.Prelude.{◌≡◌, ◌≢◌, ℕ, ◌+◌, ◌<◌, ◌≤◌, List, [], ◌∷◌, ◌++◌, codes, length, Option, None, Some}
+use Rattle.std.specs.Prelude.{◌≡◌, ◌≢◌, ℕ, ◌+◌, ◌<◌, ◌≤◌, List, [], codes, length, Option, None, Some}
 use Rattle.shelf.specs.Files.{Files, file}
 use Rattle.shelf.specs.Logs.{Entries}
 use Rattle.shelf.specs.Puts.{with_piece}
@@ -14,7 +14,7 @@ use Rattle.open_time.specs.declared.fault.OpenFault.{OpenFault}
 use Rattle.open_time.specs.Refuted.{IsOpenAward}
 use Rattle.open_time.specs.Vacant.{IsWithVacant, IsUnfilledUnder, IsUnfilledWith, NeedsVacant}
 use Rattle.plan_commands.specs.OpenRows.{AreOpenRows}
-use Rattle.plan_commands.specs.Opening.{HasLedgerWith, IsRefused, IsSpent, opening_order}
+use Rattle.plan_commands.specs.Opening.{HasLedgerWith, IsSpent, opening_order}
 use Rattle.plan_commands.specs.declared.open_stop.OpenRow.{OpenRow}
 use Rattle.plan_commands.specs.declared.open_stop.Opening.TheVariants.{Award, NoRoster}
 use Rattle.roster_model.specs.declared.award.Awarded.{Awarded}

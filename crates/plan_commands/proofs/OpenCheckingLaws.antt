@@ -53,7 +53,7 @@ use Rattle.roster_text.specs.RowReading.{no_memory}
 use Rattle.plan_commands.specs.declared.open_check_stop.OpenCheckStop.{OpenCheckStop}
 use Rattle.plan_commands.specs.declared.open_check_stop.OpenCheckStop.TheVariants as stop
 use Rattle.plan_commands.specs.declared.open_check_stop.Unopened.TheVariants as unopened
-use Rattle.plan_commands.specs.OpenChecking.{Lodged, none_in, lodged_in, IsNoneText, IsNoneEnd, IsNoneUnread, IsAwardEnd, AreRefused, IsClosedEnd, SaysProofs, SaysAll, IsShown, IsOpenCheckEnd, OfLodged, IsBadLodged, IsOpenCheck, IsOpenCheckHanded, checking_order}
+use Rattle.plan_commands.specs.OpenChecking.{Lodged, lodged_in, IsNoneText, IsNoneEnd, IsNoneUnread, IsAwardEnd, IsClosedEnd, SaysProofs, SaysAll, IsOpenCheckEnd, IsBadLodged, IsOpenCheck, IsOpenCheckHanded, checking_order}
 use Rattle.plan_commands.specs.OpenCheckingEnds.{cert_end, roster_end, reasons_end, judged_end}
 use Rattle.plan_commands.specs.OpenCheckingTexts.{none_texts, lodged_texts, AreBriefLodged}
 use Rattle.plan_commands.proofs.Held.{held, inputs_held, then_ok}

@@ -1,6 +1,6 @@
 -- The numbers of which something holds, one more at a time, and the rows of open pairings.
-use Rattle.std.proofs.Common.{◌≡◌, ℕ, ◌+◌, ◌<◌, ◌≤◌, ◌⊎◌, inl, inr, Bool, true, false, List, [], ◌∷◌, ◌++◌, length, map, refl, sym, ap, subst, ◌∙◌, arith, length-append}
-use Rattle.std.specs.Prelude.{All, nat_le, ◌&&◌, ◌||◌, ◌==◌}
+use Rattle.std.proofs.Common.{◌≡◌, ℕ, ◌+◌, ◌<◌, ◌≤◌, inl, inr, Bool, true, false, List, [], ◌∷◌, ◌++◌, map, refl, sym, ap, subst, ◌∙◌, arith}
+use Rattle.std.specs.Prelude.{All, nat_le, ◌||◌, ◌==◌}
 use Rattle.std.specs.List.{list_any}
 use Rattle.std.proofs.lemmas.Bool.{cases_lt, and_parts, and_from}
 use Rattle.std.proofs.lemmas.Bool.Decides.{nat_tests}
@@ -8,9 +8,9 @@ use Rattle.std.proofs.lemmas.List.{map-append}
 use Rattle.std.proofs.lemmas.List.Elements.{All-append, All-cons, All-nil, All-head, All-tail, All-weaker}
 use Rattle.std.proofs.lemmas.List.Folds.{list_any-append}
 use Rattle.roster_model.specs.declared.problem.Problem.{Problem}
-use Rattle.roster_model.specs.Ascending.{ascends_from, is_ascending}
+use Rattle.roster_model.specs.Ascending.{ascends_from}
 use Rattle.plan_commands.specs.declared.open_stop.OpenRow.{OpenRow}
-use Rattle.plan_commands.specs.OpenRows.{AreThose, AreNamed, AreOpenRows, IsOpenRow, vacant_crew}
+use Rattle.plan_commands.specs.OpenRows.{AreThose, AreNamed, IsOpenRow, vacant_crew}
 
 within : (a b : ℕ) → a ≤ b → nat_le a b ≡ true
 within a b le = grind (arith, nat_tests)

@@ -1,4 +1,4 @@
-use Rattle.std.proofs.Common.{◌≡◌, ◌≤◌, length, take}
+use Rattle.std.proofs.Common.{take}
 use Rattle.cert_text.specs.Sorting.{ArePairs}
 use Rattle.cert_text.proofs.repeats.placed.Given as goal
 

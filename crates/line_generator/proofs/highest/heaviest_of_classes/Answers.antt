@@ -1,4 +1,4 @@
-use Rattle.std.proofs.Common.{◌≡◌, Ok, ap}
+use Rattle.std.proofs.Common.{Ok, ap}
 use Rattle.line_generator.specs.declared.above.Over.{Over}
 use Rattle.line_generator.proofs.LineWeights.{none_heavy}
 use Rattle.line_generator.proofs.highest.heaviest_of_classes.Goals as goal

@@ -2,7 +2,6 @@ use Rattle.std.proofs.Common.{◌≡◌, ◌≤◌, length}
 use Rattle.duty_calendar.specs.declared.horizon.Horizon.{Horizon}
 use Rattle.duty_calendar.specs.Calendar.{month_days}
 use Rattle.duty_calendar.specs.Checks.{ArePairings}
-use Rattle.line_tests.proofs.Months.{no_pairings}
 use Rattle.line_tests.proofs.june.pairings_of.Given as goal
 
 abbrev pub invariant-loop-number : goal.invariant-loop-number

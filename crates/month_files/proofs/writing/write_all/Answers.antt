@@ -1,5 +1,5 @@
 use Rattle.std.proofs.Common.{◌∙◌}
-use Rattle.month_files.proofs.WriteLaws.{written_more, stopped, is_stop, all_written}
+use Rattle.month_files.proofs.WriteLaws.{written_more}
 use Rattle.month_files.proofs.writing.write_all.Goals as goal
 
 pub loop-before-preserved : goal.loop-before-preserved

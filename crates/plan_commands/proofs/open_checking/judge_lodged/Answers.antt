@@ -1,6 +1,6 @@
-use Rattle.std.proofs.Common.{◌≡◌, ◌+◌, ◌∙◌, ℕ, List, Option, length, Ok, refl, sym, subst, arith}
+use Rattle.std.proofs.Common.{◌≡◌, ◌∙◌, ℕ, List, Option, Ok, refl, sym, subst, arith}
 use Rattle.std.specs.Prelude.{All}
-use Rattle.std.specs.Option.{ForSome, option_copied}
+use Rattle.std.specs.Option.{ForSome}
 use Rattle.std.proofs.lemmas.Result.{err_from_is_err_and}
 use Rattle.cert_checker.specs.Given.{HasSmallWeights, IsCountableProof}
 use Rattle.cert_text.specs.Reading.{certificate_in}

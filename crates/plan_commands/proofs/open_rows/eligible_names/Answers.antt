@@ -1,4 +1,4 @@
-use Rattle.std.proofs.Common.{◌≡◌, ◌+◌, ◌∙◌, ℕ, List, sym, subst}
+use Rattle.std.proofs.Common.{◌+◌, ◌∙◌, ℕ, List, sym, subst}
 use Rattle.std.proofs.lemmas.Bool.{false≢true}
 use Rattle.roster_text.specs.RosterText.{member_name}
 use Rattle.open_time.specs.Eligible.{IsEligible}

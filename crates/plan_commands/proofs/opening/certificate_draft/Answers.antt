@@ -1,4 +1,3 @@
-use Rattle.std.proofs.Common.{sym, subst, arith, ℕ, ◌≤◌, length}
 use Rattle.cert_text.proofs.ShortLists.{certificate_short}
 use Rattle.plan_commands.proofs.opening.certificate_draft.Goals as goal
 

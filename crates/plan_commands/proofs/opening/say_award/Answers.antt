@@ -1,4 +1,4 @@
-use Rattle.std.proofs.Common.{◌++◌, ◌∷◌, [], List, ap, ◌∙◌}
+use Rattle.std.proofs.Common.{◌++◌, ◌∷◌, [], ap, ◌∙◌}
 use Rattle.month_files.specs.declared.writing.Draft.{Draft}
 use Rattle.roster_model.proofs.Greatest.{best-greatest}
 use Rattle.roster_text.proofs.ReasonSteps.{are_reasons}

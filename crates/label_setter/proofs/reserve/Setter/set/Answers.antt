@@ -1,5 +1,4 @@
-use Rattle.std.proofs.Common.{◌≤◌, Some, refl, arith, length}
-use Rattle.label_setter.specs.Spots.{IsReserved}
+use Rattle.std.proofs.Common.{refl, arith}
 use Rattle.label_setter.proofs.RoomLemmas.{reserved_from, serves_here, serves_buckets}
 use Rattle.label_setter.proofs.reserve.Setter.set.Goals as goal
 
