@@ -12,7 +12,7 @@ use Rattle.command_words.specs.Words.{is_argument, alone_in}
 use Rattle.command_words.specs.Spelling.{Stands, Spells}
 use Rattle.command_words.specs.Spelling.Stands.{alone, two_words, one_word}
 use Rattle.command_words.specs.Spelling.Spells.{check, award, show, make, trial, migrate, trade, calendar, whatif, opening, opencheck}
-use Rattle.command_words.specs.Reading.{Texts, joins, same_words, begins, heads, has_option, stands, award_read, one_read, name_read, sizes_read, make_read, trial_read, whatif_read, lines_read, open_read, opencheck_read, named_read}
+use Rattle.command_words.specs.Reading.{Texts, joins, same_words, begins_apart, begins, heads, has_option, stands, award_read, one_read, name_read, sizes_read, make_read, trial_read, whatif_read, lines_read, open_read, opencheck_read, named_read}
 use Rattle.command_words.proofs.Laws.{by_word, alone_spelt, mapped, moved}
 use Rattle.command_words.specs.declared.command.Sizes.{Sizes}
 use Rattle.command_words.specs.declared.command.Command.{Command}
