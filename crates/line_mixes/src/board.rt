@@ -32,6 +32,11 @@ impl Row {
         self.flown.contains(pairing) || self.barred.contains(pairing)
     }
 
+    /// Whether nothing is decided.
+    pub fn is_empty(&self) -> bool {
+        self.flown == PairingSet::new() && self.barred == PairingSet::new()
+    }
+
     /// Whether all of so many pairings are decided.
     pub fn is_whole(&self, pairings: usize) -> bool {
         PairingSet::below(pairings).is_within(&self.flown.joined(&self.barred))
@@ -91,6 +96,11 @@ impl Board {
         Ok(Board {
             rows: Vec::from_slice(alloc, &self.rows)?,
         })
+    }
+
+    /// Whether nothing is decided.
+    pub fn is_empty(&self) -> bool {
+        self.rows.iter().all(|row| row.is_empty())
     }
 
     /// The row of a member.

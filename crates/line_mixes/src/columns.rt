@@ -111,8 +111,11 @@ impl Columns {
     /// The weight of the heaviest of the member's lines.
     pub fn most(&self, kept: &Kept, member: usize, weights: &[i64]) -> i64 {
         let mut most = i64::MIN;
+        let Some(lines) = kept.lines(member) else {
+            return most;
+        };
         for place in self.places(member) {
-            most = most.max(weigh(kept.pairings(member, *place), weights));
+            most = most.max(weigh(lines.line(*place), weights));
         }
         most
     }

@@ -2,6 +2,7 @@
 ghost use Rattle.std.specs.Prelude.{◌≡◌, ◌<◌, IsTrue, length};
 ghost use Rattle.roster_model.specs.Scores.{bids_of};
 
+use crate::barren::AllBarren;
 use crate::ladder::{first_lens, first_lenses, is_of_line, is_trackable};
 use crate::pairings::PairingSet;
 use crate::pricing::Care;
@@ -13,6 +14,9 @@ use line_generator::are_known;
 use line_legality::{Illegal, legal};
 use roster_model::{Bid, Goal, Lens, Line, Problem};
 use std::alloc::Global;
+
+/// How many weights that closed roots are remembered.
+const MOST_LEAVES: usize = 8;
 
 /// Some bids, and what they weigh.
 #[derive(Clone, Copy)]
@@ -32,16 +36,24 @@ pub struct Profile {
     pub broken: Option<Illegal>,
 }
 
-/// The pairings of a member's kept lines, line after line, and where each line ends.
+/// From where to where a line goes.
+#[derive(Clone, Copy)]
+struct Span {
+    from: usize,
+    to: usize,
+}
+
+/// The pairings of a member's kept lines, line after line, and from where to where each line goes.
 #[derive(Drop)]
-struct Flat {
+pub(crate) struct Flat {
     pairings: Vec<u32>,
-    ends: Vec<usize>,
+    spans: Vec<Span>,
 }
 
 /// The kept lines, which are found by member and number; for each member a lens that sees the rules which its lines
 /// broke, and for how many searches more it is held to be dear; whether one ever was; whose turn it was to be priced first;
-/// and the last program.
+/// the last program; which members are known to have no line above a bound; and the weights that closed roots, the newest
+/// last.
 #[derive(Drop)]
 pub struct Kept {
     pool: Pool,
@@ -52,6 +64,8 @@ pub struct Kept {
     has_dear: bool,
     turn: usize,
     program: Option<Program>,
+    barren: AllBarren,
+    leaves: Vec<Vec<i64>>,
 }
 
 /// The number in 32 bits, or the greatest where it does not fit.
@@ -153,19 +167,19 @@ fn offer(pool: &mut Pool, problem: &Problem, member: u32, line: Line) -> Result<
 
 impl Flat {
     /// The pairings of the line of a number.
-    fn line(&self, place: usize) -> &[u32] {
-        let from = match place.checked_sub(1) {
-            Some(before) => self.ends.get(before).copied().unwrap_or(0),
-            None => 0,
-        };
-        let to = self.ends.get(place).copied().unwrap_or(0);
-        self.pairings.get(from..to).unwrap_or(&[])
+    pub(crate) fn line(&self, place: usize) -> &[u32] {
+        match self.spans.get(place) {
+            Some(span) => self.pairings.get(span.from..span.to).unwrap_or(&[]),
+            None => &[],
+        }
     }
 
     /// Adds a line.
     fn add(&mut self, line: &[u32]) -> Result<(), Memory> {
+        let from = self.pairings.len();
         self.pairings.extend_from_slice(line)?;
-        self.ends.push(self.pairings.len())?;
+        let to = self.pairings.len();
+        self.spans.push(Span { from, to })?;
         Ok(())
     }
 }
@@ -236,7 +250,7 @@ impl Kept {
             profiles.push(Vec::new(alloc))?;
             flats.push(Flat {
                 pairings: Vec::new(alloc),
-                ends: Vec::new(alloc),
+                spans: Vec::new(alloc),
             })?;
         }
         Ok(Kept {
@@ -248,6 +262,8 @@ impl Kept {
             has_dear: false,
             turn: 0,
             program: None,
+            barren: AllBarren::new(alloc, problem.base.members.len())?,
+            leaves: Vec::new(alloc),
         })
     }
 
@@ -277,6 +293,52 @@ impl Kept {
         if let Some(dear) = self.dear.get_mut(member) {
             *dear = dear.saturating_sub(1);
         }
+    }
+
+    /// The last program.
+    pub fn program(&self) -> Option<&Program> {
+        self.program.as_ref()
+    }
+
+    /// The weights that closed roots, the newest last.
+    pub fn leaves(&self) -> &[Vec<i64>] {
+        &self.leaves
+    }
+
+    /// Remembers weights that closed a root.
+    pub fn keep_leaf(&mut self, alloc: Global, weights: &[i64]) -> Result<(), Memory> {
+        if self.leaves.iter().any(|leaf| leaf.as_slice() == weights) {
+            return Ok(());
+        }
+        if self.leaves.len() >= MOST_LEAVES {
+            self.leaves.remove(0);
+        }
+        self.leaves.push(Vec::from_slice(alloc, weights)?)?;
+        Ok(())
+    }
+
+    /// What no line of the member is above under these weights at a root of the goal, and by which lens, if that is known.
+    pub fn barren(
+        &self,
+        alloc: Global,
+        member: usize,
+        goal: &Goal,
+        weights: &[i64],
+    ) -> Result<Option<(i64, Lens)>, Memory> {
+        self.barren.find(alloc, member, goal, weights)
+    }
+
+    /// Remembers that at a root of the goal the member has no line above this, by the lens.
+    pub(crate) fn keep_barren(
+        &mut self,
+        alloc: Global,
+        member: usize,
+        goal: &Goal,
+        weights: &[i64],
+        over: i64,
+        lens: &Lens,
+    ) -> Result<(), Memory> {
+        self.barren.add(alloc, member, goal, weights, over, lens)
     }
 
     /// Hands out the last program.
@@ -336,6 +398,11 @@ impl Kept {
         } else {
             None
         }
+    }
+
+    /// The pairings of a member's lines.
+    pub(crate) fn lines(&self, member: usize) -> Option<&Flat> {
+        self.flats.get(member)
     }
 
     /// The pairings of a line.

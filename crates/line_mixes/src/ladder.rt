@@ -97,16 +97,26 @@ fn tracked_of_line(problem: &Problem, member: usize, goal: &Goal) -> u64 {
     tracked
 }
 
+/// The bids that can be tracked and matter for the goal: all, or where there is no floor to be reached the goal's own.
+fn tracked_of(problem: &Problem, member: usize, goal: &Goal) -> u64 {
+    let all = trackable_bids(problem, member);
+    if floor_of(goal, member) == 0 {
+        all & bid_asked(goal, member)
+    } else {
+        all
+    }
+}
+
 /// Lets the lens look at pairings one by one.
-pub(crate) fn look_at_pairings(problem: &Problem, member: usize, lens: &mut Lens) {
-    lens.tracked = trackable_bids(problem, member);
+pub(crate) fn look_at_pairings(problem: &Problem, member: usize, goal: &Goal, lens: &mut Lens) {
+    lens.tracked = tracked_of(problem, member, goal);
     lens.whole = false;
 }
 
 /// Lets the lens look at whole lines too, if bids about them matter for the goal.
 pub(crate) fn look_at_lines(problem: &Problem, member: usize, goal: &Goal, lens: &mut Lens) {
     let tracked = tracked_of_line(problem, member, goal);
-    lens.tracked = trackable_bids(problem, member) | tracked;
+    lens.tracked = tracked_of(problem, member, goal) | tracked;
     lens.whole = tracked != 0;
 }
 

@@ -2,6 +2,7 @@
 //! the needs. Nothing is promised of them.
 #![tactic(auto)]
 
+mod barren;
 mod board;
 mod columns;
 mod kept;

@@ -1,7 +1,7 @@
 //! Mixes of kept lines that come near to the needs. What they miss makes weights.
 
 use crate::columns::Columns;
-use crate::kept::Kept;
+use crate::kept::{Flat, Kept};
 use crate::program::Program;
 use duty_calendar::Memory;
 use roster_model::Problem;
@@ -55,51 +55,48 @@ fn shift(misses: &mut [i64], pairings: &[u32], by: i64) {
     }
 }
 
-/// Of the shares, the place of the one whose line is most above the needs.
-fn fullest(kept: &Kept, member: usize, shares: &[Share], misses: &[i64]) -> Option<(usize, i64)> {
-    let mut best: Option<(usize, i64)> = None;
-    let mut most = i64::MIN;
-    for (at, share) in shares.iter().enumerate() {
-        let above = weigh(kept.pairings(member, share.place), misses);
-        if best.is_none() || above > most {
-            best = Some((at, above));
-            most = above;
-        }
-    }
-    best
+/// A line by its place, and by how much it is above the needs.
+#[derive(Clone, Copy)]
+struct Level {
+    at: usize,
+    above: i64,
 }
 
 /// Of these lines, the one that is least above the needs.
-fn scarcest(kept: &Kept, member: usize, places: &[usize], misses: &[i64]) -> Option<(usize, i64)> {
-    let mut best: Option<(usize, i64)> = None;
-    let mut least = i64::MAX;
+fn scarcest(lines: &Flat, places: &[usize], misses: &[i64]) -> Level {
+    let mut least = Level {
+        at: usize::MAX,
+        above: i64::MAX,
+    };
     for place in places {
-        let above = weigh(kept.pairings(member, *place), misses);
-        if best.is_none() || above < least {
-            best = Some((*place, above));
-            least = above;
+        let above = weigh(lines.line(*place), misses);
+        if above < least.above {
+            least = Level { at: *place, above };
         }
     }
-    best
+    least
 }
 
-/// Of the shares' lines, the one that is least above the needs.
-fn scarcest_shared(
-    kept: &Kept,
-    member: usize,
-    shares: &[Share],
-    misses: &[i64],
-) -> Option<(usize, i64)> {
-    let mut best: Option<(usize, i64)> = None;
-    let mut least = i64::MAX;
-    for share in shares {
-        let above = weigh(kept.pairings(member, share.place), misses);
-        if best.is_none() || above < least {
-            best = Some((share.place, above));
-            least = above;
+/// Of the shares, by their places among these, the one whose line is least above the needs, and the one whose line is most.
+fn extremes(lines: &Flat, shares: &[Share], misses: &[i64]) -> (Level, Level) {
+    let mut least = Level {
+        at: 0,
+        above: i64::MAX,
+    };
+    let mut most = Level {
+        at: 0,
+        above: i64::MIN,
+    };
+    for (at, share) in shares.iter().enumerate() {
+        let above = weigh(lines.line(share.place), misses);
+        if above < least.above {
+            least = Level { at, above };
+        }
+        if above > most.above {
+            most = Level { at, above };
         }
     }
-    best
+    (least, most)
 }
 
 /// How much share goes from a line to another that is less above the needs by `gap`: none where the misses would not
@@ -306,7 +303,8 @@ impl Mix {
     }
 
     /// Moves share of a member from the line that is most above the needs to the one that is least, among the columns
-    /// or among the lines with a share. Says by how much that one is above them, and whether share was moved.
+    /// or among the lines with a share. Says by how much that one is above them, where all columns are looked at, and
+    /// whether share was moved.
     pub fn step(
         &mut self,
         kept: &Kept,
@@ -314,23 +312,29 @@ impl Mix {
         member: usize,
         all: bool,
     ) -> Result<(i64, bool), Memory> {
-        let Some(shares) = self.shares.get_mut(member) else {
+        let (Some(shares), Some(lines)) = (self.shares.get_mut(member), kept.lines(member)) else {
             return Ok((0, false));
         };
-        let lowest = if all {
-            scarcest(kept, member, columns.places(member), &self.misses)
-        } else {
-            scarcest_shared(kept, member, shares, &self.misses)
-        };
-        let (Some((to, below)), Some((at, above))) = (
-            lowest,
-            fullest(kept, member, shares, &self.misses),
+        if !all && shares.len() < 2 {
+            return Ok((0, false));
+        }
+        let (least, most) = extremes(lines, shares, &self.misses);
+        let (Some(giving), Some(lowest)) = (
+            shares.get(most.at).copied(),
+            shares.get(least.at).copied(),
         ) else {
             return Ok((0, false));
         };
-        let Some(giving) = shares.get(at).copied() else {
-            return Ok((below, false));
+        let (at, above) = (most.at, most.above);
+        let (to, below) = if all {
+            let scarcest = scarcest(lines, columns.places(member), &self.misses);
+            (scarcest.at, scarcest.above)
+        } else {
+            (lowest.place, least.above)
         };
+        if giving.place == to || above <= below {
+            return Ok((below, false));
+        }
         let (Some(from), Some(into)) = (
             kept.profile(member, giving.place),
             kept.profile(member, to),
@@ -339,15 +343,15 @@ impl Mix {
         };
         let distance = from.pairings.distance(&into.pairings);
         let size = step_size(above.wrapping_sub(below), distance, giving.part);
-        if giving.place == to || size == 0 {
+        if size == 0 {
             return Ok((below, false));
         }
         shift(
             &mut self.misses,
-            kept.pairings(member, giving.place),
+            lines.line(giving.place),
             size.wrapping_neg(),
         );
-        shift(&mut self.misses, kept.pairings(member, to), size);
+        shift(&mut self.misses, lines.line(to), size);
         take(shares, at, size);
         give(shares, to, size)?;
         Ok((below, true))

@@ -77,7 +77,10 @@ impl PairingSet {
     pub fn distance(&self, other: &PairingSet) -> i64 {
         let mut count: i64 = 0;
         for (own, its) in self.words.iter().zip(other.words.iter()) {
-            count = count.wrapping_add(i64::from((*own ^ *its).count_ones()));
+            let differing = *own ^ *its;
+            if differing != 0 {
+                count = count.wrapping_add(i64::from(differing.count_ones()));
+            }
         }
         count
     }

@@ -61,7 +61,7 @@ impl Care {
     fn adjust(self, problem: &Problem, member: usize, goal: &Goal, lens: &mut Lens) {
         match self {
             Care::Fine | Care::Rough => look_at_lines(problem, member, goal, lens),
-            Care::Plain => look_at_pairings(problem, member, lens),
+            Care::Plain => look_at_pairings(problem, member, goal, lens),
         }
     }
 }
@@ -111,6 +111,43 @@ fn look(
     Ok((found, !is_finer))
 }
 
+/// Remembers that the member has no line above the bound by the lens, where that is about a root.
+fn note(
+    alloc: Global,
+    kept: &mut Kept,
+    member: usize,
+    goal: &Goal,
+    row: &Row,
+    weights: &[i64],
+    over: i64,
+    care: Care,
+    lens: &Lens,
+) -> Result<(), Memory> {
+    if care == Care::Fine && row.is_empty() {
+        kept.keep_barren(alloc, member, goal, weights, over, lens)?;
+    }
+    Ok(())
+}
+
+/// A lens by which it is known that the member has no line above the bound, if there is one.
+fn known_lens(
+    alloc: Global,
+    kept: &Kept,
+    member: usize,
+    goal: &Goal,
+    weights: &[i64],
+    over: i64,
+    care: Care,
+) -> Result<Option<Lens>, Memory> {
+    if care == Care::Plain {
+        return Ok(None);
+    }
+    let Some((known, lens)) = kept.barren(alloc, member, goal, weights)? else {
+        return Ok(None);
+    };
+    Ok(if known <= over { Some(lens) } else { None })
+}
+
 /// As `price`, by a ladder that begins with this lens, each search with so many steps.
 fn price_from(
     alloc: Global,
@@ -145,7 +182,10 @@ fn price_from(
         )?;
         let priced = match answer {
             Over::Line(priced) => priced,
-            Over::Nothing => return Ok(Priced::Nothing(lens)),
+            Over::Nothing => {
+                note(alloc, kept, member, goal, row, weights, over, care, &lens)?;
+                return Ok(Priced::Nothing(lens));
+            }
             Over::Limit if steps < care.steps() => return Ok(Priced::Unknown),
             Over::Limit => {
                 kept.look_through(member, first_lens(alloc, problem, member));
@@ -178,6 +218,9 @@ pub fn price(
 ) -> Result<Priced, Memory>
     requires goal { IsGoal problem.now goal.now }
 {
+    if let Some(lens) = known_lens(alloc, kept, member, goal, weights, over, care)? {
+        return Ok(Priced::Nothing(lens));
+    }
     let lens = kept.lens(alloc, problem, member)?;
     let steps = care.steps();
     price_from(
@@ -199,6 +242,9 @@ pub fn price_briefly(
 ) -> Result<Priced, Memory>
     requires goal { IsGoal problem.now goal.now }
 {
+    if let Some(lens) = known_lens(alloc, kept, member, goal, weights, over, care)? {
+        return Ok(Priced::Nothing(lens));
+    }
     let lens = kept.lens(alloc, problem, member)?;
     price_from(
         alloc, problem, kept, member, goal, row, weights, over, care, lens, BRIEF,

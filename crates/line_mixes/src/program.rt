@@ -210,6 +210,23 @@ impl Program {
         Ok(program)
     }
 
+    /// The program once more.
+    pub fn copy(&self, alloc: Global) -> Result<Program, Memory> {
+        let mut inverse = Vec::new(alloc);
+        for row in &self.inverse {
+            inverse.push(Vec::from_slice(alloc, row)?)?;
+        }
+        Ok(Program {
+            pairings: self.pairings,
+            basis: Vec::from_slice(alloc, &self.basis)?,
+            amounts: Vec::from_slice(alloc, &self.amounts)?,
+            inverse,
+            worth: Vec::from_slice(alloc, &self.worth)?,
+            next: Vec::new(alloc),
+            changes: self.changes,
+        })
+    }
+
     /// Whether the program may go on with other columns: it is young, and has no line that is not to be had.
     pub fn may_go_on(&self) -> bool {
         self.changes < OLD && !self.basis.contains(&Basic::Gone)

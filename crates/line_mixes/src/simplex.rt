@@ -48,16 +48,45 @@ fn best_of(
     worth: &[f64],
     own: f64,
 ) -> Option<usize> {
+    let lines = kept.lines(member)?;
     let mut best = None;
     let mut most = NO_GAIN;
     for place in columns.places(member) {
-        let gain = add_up(worth, kept.pairings(member, *place), own);
+        let gain = add_up(worth, lines.line(*place), own);
         if gain > most {
             best = Some(*place);
             most = gain;
         }
     }
     best
+}
+
+/// By how much less each row has for one of a line of these pairings, whose member has this column.
+fn line_change(
+    alloc: Global,
+    rows: &[Vec<f64>],
+    pairings: &[u32],
+    own: usize,
+) -> Result<Vec<f64>, Memory> {
+    let mut change = Vec::with_capacity(alloc, rows.len())?;
+    for row in rows {
+        change.push(add_up(row, pairings, at(row, own)))?;
+    }
+    Ok(change)
+}
+
+/// So many times what the rows have at a column.
+fn cell_change(
+    alloc: Global,
+    rows: &[Vec<f64>],
+    column: usize,
+    times: f64,
+) -> Result<Vec<f64>, Memory> {
+    let mut change = Vec::with_capacity(alloc, rows.len())?;
+    for row in rows {
+        change.push(at(row, column) * times)?;
+    }
+    Ok(change)
 }
 
 /// Which amount comes to nothing first.
@@ -144,19 +173,15 @@ impl Program {
 
     /// By how much less each row has for one of what comes in.
     fn change(&self, alloc: Global, kept: &Kept, basic: Basic) -> Result<Vec<f64>, Memory> {
-        let mut change = Vec::new(alloc);
-        for row in self.inverse.iter() {
-            change.push(match basic {
-                Basic::Line(member, place) => {
-                    let own = at(row, self.pairings.saturating_add(member));
-                    add_up(row, kept.pairings(member, place), own)
-                }
-                Basic::Lack(pairing) => at(row, pairing),
-                Basic::Excess(pairing) => -at(row, pairing),
-                Basic::Gone => 0.0,
-            })?;
+        match basic {
+            Basic::Line(member, place) => {
+                let own = self.pairings.saturating_add(member);
+                line_change(alloc, &self.inverse, kept.pairings(member, place), own)
+            }
+            Basic::Lack(pairing) => cell_change(alloc, &self.inverse, pairing, 1.0),
+            Basic::Excess(pairing) => cell_change(alloc, &self.inverse, pairing, -1.0),
+            Basic::Gone => cell_change(alloc, &self.inverse, 0, 0.0),
         }
-        Ok(change)
     }
 
     /// The row that comes to nothing first; of several the one of the greatest change.
@@ -210,15 +235,19 @@ impl Program {
         self.changes = self.changes.wrapping_add(1);
     }
 
-    /// Lets in what makes the misses less until there is no such thing, so often at most.
+    /// Lets in what makes the misses less until they are little or there is no such thing, so often at most.
     pub fn solve(
         &mut self,
         alloc: Global,
         kept: &Kept,
         columns: &Columns,
         most: u32,
+        little: f64,
     ) -> Result<(), Memory> {
         for _ in 0..most {
+            if self.misses() <= little {
+                return Ok(());
+            }
             let Some(coming) = self.coming(kept, columns)? else {
                 return Ok(());
             };

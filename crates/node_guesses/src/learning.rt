@@ -6,6 +6,13 @@ use line_mixes::{Board, Care, Columns, Kept, Mix, Program};
 use roster_model::{Awarded, Goal, Item, Problem, Proof, Roster};
 use std::alloc::Global;
 
+/// How much may be missed by a program that counts as solved.
+const LITTLE: f64 = 0.01;
+/// How many rows a program may have that is solved just for a guess.
+const MOST_ROWS: usize = 300;
+/// How often something may come into a program in one go.
+const MOST_CHANGES: u32 = 20_000;
+
 /// The weights of the first leaf of the proof that has some; none where no leaf has any.
 fn weights_of(alloc: Global, proof: &Proof) -> Result<Vec<i64>, Memory> {
     for item in proof.as_slice() {
@@ -49,7 +56,46 @@ fn mix_with(
     Ok(Mix::of_program(alloc, problem, kept, &columns, &program, weights)?)
 }
 
+/// The kept lines of each member that may serve the goal; none where a member has none.
+fn serving(
+    alloc: Global,
+    problem: &Problem,
+    kept: &Kept,
+    goal: &Goal,
+) -> Result<Option<Columns>, Memory> {
+    let board = Board::empty(alloc, problem.base.members.len())?;
+    let mut columns = Columns::new(alloc);
+    for member in 0..problem.base.members.len() {
+        if !columns.append(alloc, kept, goal, member, &board.row(member), Care::Fine)? {
+            return Ok(None);
+        }
+    }
+    Ok(Some(columns))
+}
+
+/// Whether kept lines alone can be mixed for the goal so that hardly anything is missed.
+pub(crate) fn is_mixed(
+    alloc: Global,
+    problem: &Problem,
+    kept: &Kept,
+    goal: &Goal,
+    warm: Option<&Mix>,
+) -> Result<bool, Memory> {
+    let Some(columns) = serving(alloc, problem, kept, goal)? else {
+        return Ok(false);
+    };
+    let mut program = Program::begun(alloc, problem, kept, &columns, warm)?;
+    program.solve(alloc, kept, &columns, MOST_CHANGES, LITTLE)?;
+    Ok(program.misses() <= LITTLE)
+}
+
 impl Guide {
+    /// Whether it is worth a look what kept lines can be mixed for: they were learned, and a program of them is not large.
+    pub(crate) fn may_mix(&self, problem: &Problem) -> bool {
+        let (members, pairings) = (problem.base.members.len(), problem.base.pairings.len());
+        !self.learned.is_empty() && members.saturating_add(pairings) <= MOST_ROWS
+    }
+
     /// Keeps the lines of a roster.
     fn keep_lines(
         &mut self,
@@ -118,6 +164,7 @@ impl Guide {
             return Ok(());
         }
         let weights = Vec::from_slice(alloc, learned)?;
+        self.open_goal = None;
         self.warm = Some(mix_with(alloc, problem, &self.kept, weights)?);
         Ok(())
     }

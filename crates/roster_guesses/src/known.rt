@@ -108,6 +108,12 @@ impl AllKnown {
         Ok(None)
     }
 
+    /// Whether a roster grants the bid and reaches so many of the scores.
+    pub fn reaches(&self, problem: &Problem, scores: &[u32], places: usize, bid: BidRef) -> bool {
+        let floors = scores.get(..places.min(scores.len())).unwrap_or(&[]);
+        self.rosters.iter().any(|known| known.reaches(floors) && known.grants(problem, Some(bid)))
+    }
+
     /// Of the rosters that reach the first floors, the newest with the greatest score at the next member.
     pub fn best(&self, before: &[u32]) -> Option<&Known> {
         let mut best: Option<&Known> = None;

@@ -11,7 +11,7 @@ use std::alloc::Global;
 use std::num::{nearest_i64_to_f64, saturating_f64_to_i64};
 
 /// How much may be missed by a program that counts as solved.
-const LITTLE: f64 = 0.01;
+const LITTLE: f64 = 0.003;
 /// How many rows a program may have: it takes longer than the searches that it saves where there are more.
 const MOST_ROWS: usize = 300;
 /// Up to how many rows a program is worth its time even where searches are short.
@@ -36,10 +36,21 @@ enum Tested {
 }
 
 /// Whether programs are worth their time: some searches are dear, and the rows are few.
-pub(crate) fn is_worth_while(problem: &Problem, kept: &Kept) -> bool {
+pub fn is_worth_while(problem: &Problem, kept: &Kept) -> bool {
     let (members, pairings) = (problem.base.members.len(), problem.base.pairings.len());
     let rows = pairings.saturating_add(members);
     rows <= FEW_ROWS || kept.has_dear() && rows <= MOST_ROWS
+}
+
+/// What may be missed by a program that is not solved to its end: in one of many rows nothing, since a roster is more easily
+/// found from where it ends.
+fn end_of(problem: &Problem) -> f64 {
+    let (members, pairings) = (problem.base.members.len(), problem.base.pairings.len());
+    if pairings.saturating_add(members) <= FEW_ROWS {
+        LITTLE
+    } else {
+        0.0
+    }
 }
 
 /// Half way from the first to the second; the second where there is no first.
@@ -262,8 +273,9 @@ fn worked(
 ) -> Result<Option<Bounded>, Memory>
     requires goal { IsGoal problem.now goal.now }
 {
+    let end = end_of(problem);
     for _ in 0..most {
-        work.program.solve(alloc, kept, columns, MOST_CHANGES)?;
+        work.program.solve(alloc, kept, columns, MOST_CHANGES, end)?;
         if work.program.misses() <= LITTLE {
             return Ok(None);
         }

@@ -2,6 +2,7 @@
 ghost use Rattle.std.specs.Prelude.{◌≡◌};
 ghost use Rattle.roster_model.specs.Goals.{IsGoal};
 
+use crate::leaves::test_leaves;
 use crate::mastering::{is_worth_while, mastered};
 use crate::testing::{Bounded, test};
 use duty_calendar::Memory;
@@ -186,8 +187,30 @@ fn mixed(
     Ok(Relaxed::Open(mix))
 }
 
-/// The relaxation, which begins with the weights and the mix of another.
+/// The relaxation, which begins with the weights and the mix of another. Weights that close a root are remembered.
 pub fn relax(
+    alloc: Global,
+    problem: &Problem,
+    kept: &mut Kept,
+    goal: &Goal,
+    board: &Board,
+    warm: Option<&Mix>,
+    most: u32,
+    care: Care,
+) -> Result<Relaxed, Memory>
+    requires goal { IsGoal problem.now goal.now }
+{
+    let relaxed = relaxation(alloc, problem, kept, goal, board, warm, most, care)?;
+    if let Relaxed::Bounded(leaf) = &relaxed {
+        if care == Care::Fine && board.is_empty() {
+            kept.keep_leaf(alloc, &leaf.weights)?;
+        }
+    }
+    Ok(relaxed)
+}
+
+/// The relaxation.
+fn relaxation(
     alloc: Global,
     problem: &Problem,
     kept: &mut Kept,
@@ -207,6 +230,12 @@ pub fn relax(
         Gathered::NoLine(member, lens) => return Ok(Relaxed::NoLine(member, lens)),
         Gathered::Unknown => return Ok(Relaxed::Unknown),
     };
+    if care == Care::Fine && board.is_empty() {
+        let leaf = test_leaves(alloc, problem, kept, goal, board, &mut columns)?;
+        if let Some(leaf) = leaf {
+            return Ok(Relaxed::Bounded(leaf));
+        }
+    }
     if let Some(warm) = warm {
         let weights = warm.weights(alloc)?;
         let leaf = test(

@@ -53,6 +53,11 @@ impl Balance {
         self.sum = self.sum.wrapping_add(self.slack);
     }
 
+    /// Lets a member weigh so much more.
+    pub(crate) fn allow(&mut self, more: i64) {
+        self.sum = self.sum.wrapping_add(more.max(0));
+    }
+
     /// Whether the lines that are known weigh no less than the needs.
     pub(crate) fn is_reached(&self) -> bool {
         self.sum >= self.needed

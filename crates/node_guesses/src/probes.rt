@@ -1,0 +1,94 @@
+//! What is missed at both sides of a pair, by programs over the lines that are kept.
+
+use duty_calendar::Memory;
+use line_mixes::{Board, Care, Columns, Kept, Mix, Program};
+use roster_model::{Goal, Problem};
+use std::alloc::Global;
+
+/// How often something may come into a program.
+const MOST_CHANGES: u32 = 400;
+/// What is missed where a member has no line that is kept.
+const ALL: f64 = 1.0;
+/// More than this counts as so much: either closes the side.
+const MOST: f64 = 0.05;
+/// What even a side that misses nothing counts.
+const LITTLE: f64 = 0.0005;
+
+/// The kept lines of all members that obey the board; none where a member has none.
+fn gathered(
+    alloc: Global,
+    problem: &Problem,
+    kept: &Kept,
+    goal: &Goal,
+    board: &Board,
+) -> Result<Option<Columns>, Memory> {
+    let mut columns = Columns::new(alloc);
+    for member in 0..problem.base.members.len() {
+        let row = board.row(member);
+        if !columns.append(alloc, kept, goal, member, &row, Care::Fine)? {
+            return Ok(None);
+        }
+    }
+    Ok(Some(columns))
+}
+
+/// The board in which the member flies the pairing too, or does not.
+fn side(
+    alloc: Global,
+    board: &Board,
+    member: usize,
+    pairing: usize,
+    flies: bool,
+) -> Result<Board, Memory> {
+    let mut side = board.copy(alloc)?;
+    let mut row = side.row(member);
+    if flies {
+        row.flown.insert(pairing);
+    } else {
+        row.barred.insert(pairing);
+    }
+    side.set(member, row);
+    Ok(side)
+}
+
+/// How much the kept lines that obey the board miss.
+fn missed(
+    alloc: Global,
+    problem: &Problem,
+    kept: &Kept,
+    goal: &Goal,
+    board: &Board,
+    mix: &Mix,
+    last: &Program,
+) -> Result<f64, Memory> {
+    let Some(columns) = gathered(alloc, problem, kept, goal, board)? else {
+        return Ok(ALL);
+    };
+    let mut program = if last.may_go_on() {
+        last.copy(alloc)?
+    } else {
+        Program::begun(alloc, problem, kept, &columns, Some(mix))?
+    };
+    program.go_on(alloc, &columns)?;
+    program.solve(alloc, kept, &columns, MOST_CHANGES, LITTLE)?;
+    Ok(program.misses())
+}
+
+/// How good it is to branch on the pair: more where both sides miss more.
+pub(crate) fn gain(
+    alloc: Global,
+    problem: &Problem,
+    kept: &Kept,
+    goal: &Goal,
+    board: &Board,
+    mix: &Mix,
+    last: &Program,
+    pair: (usize, usize),
+) -> Result<f64, Memory> {
+    let (member, pairing) = pair;
+    let with = side(alloc, board, member, pairing, true)?;
+    let without = side(alloc, board, member, pairing, false)?;
+    let one = missed(alloc, problem, kept, goal, &with, mix, last)?;
+    let other = missed(alloc, problem, kept, goal, &without, mix, last)?;
+    Ok((one.min(MOST) + LITTLE) * (other.min(MOST) + LITTLE))
+}

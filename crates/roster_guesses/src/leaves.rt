@@ -1,0 +1,134 @@
+//! Weights that closed other roots, tested once more.
+ghost use Rattle.std.specs.Prelude.{◌≡◌};
+ghost use Rattle.roster_model.specs.Goals.{IsGoal};
+
+use crate::testing::{Balance, Bounded, Leaf, bounds_of, test_member, weighed};
+use duty_calendar::Memory;
+use line_mixes::{Board, Care, Columns, Kept, number};
+use roster_model::{Goal, Problem};
+use std::alloc::Global;
+
+/// How many members may be searched for weights that closed another root.
+const MOST_SEARCHED: usize = 3;
+
+/// Which members are to be searched so that the weights close the root: all but those of whom it is known what no line is
+/// above, which the leaf is told.
+fn unknown(
+    alloc: Global,
+    problem: &Problem,
+    kept: &Kept,
+    goal: &Goal,
+    weights: &[i64],
+    balance: &mut Balance,
+    leaf: &mut Leaf,
+) -> Result<Vec<usize>, Memory> {
+    let mut members = Vec::new(alloc);
+    for member in 0..problem.base.members.len() {
+        match kept.barren(alloc, member, goal, weights)? {
+            Some((over, lens)) => {
+                let most = leaf.most(member);
+                balance.allow(over.wrapping_sub(most));
+                leaf.set(member, lens, over.max(most));
+            }
+            None => members.push(member)?,
+        }
+    }
+    Ok(members)
+}
+
+/// Searches these members, until one has a line that is too heavy.
+fn search(
+    alloc: Global,
+    problem: &Problem,
+    kept: &mut Kept,
+    goal: &Goal,
+    board: &Board,
+    columns: &mut Columns,
+    weights: &[i64],
+    members: &[usize],
+    balance: &mut Balance,
+    leaf: &mut Leaf,
+) -> Result<(), Memory>
+    requires goal { IsGoal problem.now goal.now }
+{
+    let care = Care::Fine;
+    for member in members {
+        if !leaf.is_closing {
+            return Ok(());
+        }
+        test_member(
+            alloc, problem, kept, goal, board, columns, weights, *member, care, balance, leaf,
+        )?;
+    }
+    Ok(())
+}
+
+/// Whether the weights close the root, where few members are to be searched for that.
+fn test_again(
+    alloc: Global,
+    problem: &Problem,
+    kept: &mut Kept,
+    goal: &Goal,
+    board: &Board,
+    columns: &mut Columns,
+    weights: Vec<i64>,
+) -> Result<Option<Bounded>, Memory>
+    requires goal { IsGoal problem.now goal.now }
+{
+    let bounds = bounds_of(alloc, problem, kept, columns, &weights)?;
+    let mut balance = weighed(problem, &bounds, &weights);
+    if balance.is_reached() {
+        return Ok(None);
+    }
+    let mut leaf = Leaf::new(alloc, problem, bounds)?;
+    let members = unknown(
+        alloc,
+        problem,
+        kept,
+        goal,
+        &weights,
+        &mut balance,
+        &mut leaf,
+    )?;
+    if balance.is_reached() || members.len() > MOST_SEARCHED {
+        return Ok(None);
+    }
+    balance.share(number(members.len()));
+    search(
+        alloc,
+        problem,
+        kept,
+        goal,
+        board,
+        columns,
+        &weights,
+        &members,
+        &mut balance,
+        &mut leaf,
+    )?;
+    Ok(leaf.closed(weights))
+}
+
+/// Whether any weights that closed other roots close this one too, the newest first.
+pub(crate) fn test_leaves(
+    alloc: Global,
+    problem: &Problem,
+    kept: &mut Kept,
+    goal: &Goal,
+    board: &Board,
+    columns: &mut Columns,
+) -> Result<Option<Bounded>, Memory>
+    requires goal { IsGoal problem.now goal.now }
+{
+    for at in (0..kept.leaves().len()).rev() {
+        let Some(leaf) = kept.leaves().get(at) else {
+            return Ok(None);
+        };
+        let weights = Vec::from_slice(alloc, leaf)?;
+        let leaf = test_again(alloc, problem, kept, goal, board, columns, weights)?;
+        if leaf.is_some() {
+            return Ok(leaf);
+        }
+    }
+    Ok(None)
+}
