@@ -9,6 +9,11 @@ returns-in-Award-clause-found c =
     c.in_ok-said-in-Award.field-0 c.len.result c.len.ensures.len c.in_ok-said-in-Award.ensures.scores c.in_ok-said-in-Award.ensures.nodes
     c.in_ok-said-in-Award.ensures.drafts c.in_ok-said-in-Award.ensures.readable
 
+pub returns-in_err-best-clause-miss : goal.returns-in_err-best-clause-miss
+returns-in_err-best-clause-miss c =
+    let p = err_from_is_err_and c.from_residual-in_err-best.result c.from_residual-in_err-best.ensures.1 in
+    rw (p.1, p.2) tt
+
 pub returns-in_err-said-in-Award-clause-miss : goal.returns-in_err-said-in-Award-clause-miss
 returns-in_err-said-in-Award-clause-miss c =
     let p = err_from_is_err_and c.from_residual-in_err-said-in-Award.result c.from_residual-in_err-said-in-Award.ensures.1 in
