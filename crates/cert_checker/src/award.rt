@@ -7,9 +7,11 @@ ghost use Rattle.roster_model.specs.Denials.{DenialsFit, IsAwarded};
 ghost use Rattle.cert_checker.specs.Given.{AreCountableParts, AreInRange, HasSmallProof, HasSmallWeights, HaveSmallWeights, IsCountable, IsCountableProof, NameBids};
 ghost use Rattle.cert_checker.specs.Stops.{Stops};
 ghost use Rattle.cert_checker.specs.Awards.{AreAllClosed, AreAnswered, DenialsFail, Excludes, IsClosingSound, IsFirstNo, IsFirstOfPlaces, IsIncomplete, PlacesFail};
+ghost use Rattle.cert_checker.specs.Recalls.{IsRight};
 
 use crate::goals::goal_above;
 use crate::reasons::first_mislisted;
+use crate::recall::Recall;
 use crate::refusal::No;
 use crate::shown::first_unshown;
 use crate::walk::first_fault;
@@ -44,10 +46,12 @@ pub fn judge(
     ensures answered { OnOk result (AreAnswered problem.now roster.now reasons.now awarded.now) }
     ensures sound { IsClosingSound problem.now }
 {
-    let scores = judge_places(alloc, problem, roster, &awarded.proofs)?;
+    let mut recall = Recall::new(alloc);
+    let scores = judge_places(alloc, problem, &mut recall, roster, &awarded.proofs)?;
     judge_denials(
         alloc,
         problem,
+        &mut recall,
         roster,
         scores.as_slice(),
         reasons,
@@ -61,6 +65,7 @@ pub fn judge(
 fn judge_places(
     alloc: Global,
     problem: &Problem,
+    recall: &mut Recall,
     roster: &Roster,
     place_proofs: &List<Proof>,
 ) -> Result<List<u32>, No>
@@ -68,10 +73,12 @@ fn judge_places(
     requires pairings { AreInRange problem.now roster.now }
     requires small { HaveSmallWeights place_proofs.now }
     requires countable { IsCountable place_proofs.now }
+    requires right { IsRight problem.now recall.old }
     ensures value { IfOk result (λ scores. scores ≡ scores_of problem.now roster.now) }
     ensures accepted { OnOk result (IsBest problem.now roster.now place_proofs.now) }
     ensures first { IfErr result (PlacesFail problem.now roster.now place_proofs.now) }
     ensures refused { Excludes result (IsBest problem.now roster.now place_proofs.now) }
+    ensures right { IsRight problem.now recall.new }
     ensures greatest { OnOk result (IsGreatest problem.now roster.now) }
     ensures sound { IsClosingSound problem.now }
 {
@@ -82,7 +89,7 @@ fn judge_places(
         return Err(No::Amount(found as u32));
     }
     let scores = scores_of(alloc, problem, roster)?;
-    places(alloc, problem, scores.as_slice(), proofs)?;
+    places(alloc, problem, recall, scores.as_slice(), proofs)?;
     Ok(scores)
 }
 
@@ -90,6 +97,7 @@ fn judge_places(
 fn judge_denials(
     alloc: Global,
     problem: &Problem,
+    recall: &mut Recall,
     roster: &Roster,
     scores: &[u32],
     reasons: &Reasons,
@@ -101,6 +109,7 @@ fn judge_denials(
     requires bids { NameBids problem.now reasons.now }
     requires small { All HasSmallProof shown.now }
     requires countable { AreCountableParts shown.now }
+    requires right { IsRight problem.now recall.old }
     ensures fit { OnOk result (DenialsFit problem.now roster.now reasons.now shown.now) }
     ensures fault { IfErr result (DenialsFail problem.now roster.now reasons.now shown.now) }
     ensures refused { Excludes result (DenialsFit problem.now roster.now reasons.now shown.now) }
@@ -114,7 +123,7 @@ fn judge_denials(
     if let Some(bid) = first_mislisted(problem, roster, listed) {
         return Err(No::Reason(bid.member, bid.bid));
     }
-    first_unshown(alloc, problem, scores, listed, parts)
+    first_unshown(alloc, problem, recall, scores, listed, parts)
 }
 
 /// Whether the proof shows that there is no complete roster, else what is wrong with it. Its search
@@ -132,7 +141,8 @@ pub fn judge_none(alloc: Global, problem: &Problem, proof: &Proof) -> Result<(),
         floors: List::new(alloc),
         grant: None,
     };
-    first_fault(alloc, problem, &goal, 0, proof.as_slice())
+    let mut recall = Recall::new(alloc);
+    first_fault(alloc, problem, &mut recall, &goal, 0, proof.as_slice())
 }
 
 /// The first line that is illegal, else the first pairing without its crew.
@@ -152,17 +162,25 @@ fn whole(alloc: Global, problem: &Problem, roster: &Roster) -> Result<(), No>
 }
 
 /// The first place whose proof does not close the goal above the scores, and what is wrong there.
-fn places(alloc: Global, problem: &Problem, scores: &[u32], proofs: &[Proof]) -> Result<(), No>
+fn places(
+    alloc: Global,
+    problem: &Problem,
+    recall: &mut Recall,
+    scores: &[u32],
+    proofs: &[Proof],
+) -> Result<(), No>
     requires members { length scores.now ≡ length problem.now.base.members }
     requires amount { length proofs.now ≡ length scores.now }
     requires room { All (λ s. s + 1 < 2 ^ 32) scores.now }
     requires small_weights { HaveSmallWeights proofs.now }
     requires countable { IsCountable proofs.now }
+    requires right { IsRight problem.now recall.old }
     ensures closed { OnOk result (AreAllClosed problem.now scores.now proofs.now) }
     ensures fault { IfErr result (IsFirstOfPlaces problem.now scores.now proofs.now) }
+    ensures right { IsRight problem.now recall.new }
 {
     for (place, proof) in proofs.iter().enumerate() {
-        judge_place(alloc, problem, scores, place, proof.as_slice())?;
+        judge_place(alloc, problem, recall, scores, place, proof.as_slice())?;
     }
     Ok(())
 }
@@ -171,6 +189,7 @@ fn places(alloc: Global, problem: &Problem, scores: &[u32], proofs: &[Proof]) ->
 fn judge_place(
     alloc: Global,
     problem: &Problem,
+    recall: &mut Recall,
     scores: &[u32],
     place: usize,
     items: &[Item],
@@ -181,9 +200,11 @@ fn judge_place(
     requires small { place < 2 ^ 32 }
     requires small_weights { All HasSmallWeights items.now }
     requires countable { IsCountableProof items.now }
+    requires right { IsRight problem.now recall.old }
     ensures closed { OnOk result (Closes problem.now (above_at scores.now place) [] items.now) }
     ensures fault { IfErr result (Stops problem.now (above_at scores.now place) place items.now) }
+    ensures right { IsRight problem.now recall.new }
 {
     let goal = goal_above(alloc, scores, place)?;
-    first_fault(alloc, problem, &goal, place as u32, items)
+    first_fault(alloc, problem, recall, &goal, place as u32, items)
 }

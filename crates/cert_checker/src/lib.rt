@@ -9,6 +9,7 @@ mod fixed;
 mod goals;
 mod noline;
 mod reasons;
+mod recall;
 mod refusal;
 mod shown;
 mod split;

@@ -4,8 +4,10 @@ ghost use Rattle.roster_model.specs.Goals.{IsBidOf};
 ghost use Rattle.roster_model.specs.Denials.{HasItsParts, IsShown, has_proof, has_roster, place_of};
 ghost use Rattle.cert_checker.specs.Given.{HasCountableProof, HasSmallProof, IsReasonAsked, NameBids};
 ghost use Rattle.cert_checker.specs.Unshown.{AreAllShown, IsFirstUnshown, IsProofShown, IsRosterShown, IsUnshown, ProofFails, RosterFails};
+ghost use Rattle.cert_checker.specs.Recalls.{IsRight};
 
 use crate::reasons::place_of;
+use crate::recall::Recall;
 use crate::refusal::No;
 use crate::walk::first_fault;
 use crate::witness::is_witness;
@@ -43,21 +45,24 @@ fn has_its_parts(cause: Cause, shown: &Shown) -> bool
 fn judge_proof(
     alloc: Global,
     problem: &Problem,
+    recall: &mut Recall,
     scores: &[u32],
     search: u32,
     denial: Denial,
     shown: &Shown,
 ) -> Result<(), No>
     requires asked { IsReasonAsked problem.now scores.now denial shown.now }
+    requires right { IsRight problem.now recall.old }
     ensures closed { OnOk result (IsProofShown problem.now scores.now denial shown.now) }
     ensures fault { IfErr result (ProofFails problem.now scores.now search denial shown.now) }
+    ensures right { IsRight problem.now recall.new }
 {
     match &shown.proof {
         None => Ok(()),
         Some(proof) => {
             let places = place_of(denial.cause) as usize;
             let goal = Goal::granting(alloc, scores, places, denial.bid)?;
-            first_fault(alloc, problem, &goal, search, proof.as_slice())
+            first_fault(alloc, problem, recall, &goal, search, proof.as_slice())
         }
     }
 }
@@ -91,19 +96,22 @@ fn judge_roster(
 fn judge_reason(
     alloc: Global,
     problem: &Problem,
+    recall: &mut Recall,
     scores: &[u32],
     search: u32,
     denial: Denial,
     shown: &Shown,
 ) -> Result<(), No>
     requires asked { IsReasonAsked problem.now scores.now denial shown.now }
+    requires right { IsRight problem.now recall.old }
     ensures shown { OnOk result (IsShown problem.now scores.now denial shown.now) }
     ensures fault { IfErr result (IsUnshown problem.now scores.now search denial shown.now) }
+    ensures right { IsRight problem.now recall.new }
 {
     if !has_its_parts(denial.cause, shown) {
         return Err(No::Shown(denial.bid.member, denial.bid.bid));
     }
-    judge_proof(alloc, problem, scores, search, denial, shown)?;
+    judge_proof(alloc, problem, recall, scores, search, denial, shown)?;
     judge_roster(alloc, problem, scores, denial, shown)
 }
 
@@ -111,6 +119,7 @@ fn judge_reason(
 pub(crate) fn first_unshown(
     alloc: Global,
     problem: &Problem,
+    recall: &mut Recall,
     scores: &[u32],
     reasons: &[Denial],
     shown: &[Shown],
@@ -122,12 +131,14 @@ pub(crate) fn first_unshown(
     requires places { All (λ d. place_of d.cause ≤ length problem.now.base.members) reasons.now }
     requires small { All HasSmallProof shown.now }
     requires countable { All HasCountableProof shown.now }
+    requires right { IsRight problem.now recall.old }
     ensures shown { OnOk result (AreAllShown problem.now scores.now reasons.now shown.now) }
     ensures fault { IfErr result (IsFirstUnshown problem.now scores.now reasons.now shown.now) }
+    ensures right { IsRight problem.now recall.new }
 {
     for (at, part) in shown.iter().enumerate() {
         let search = (scores.len() + at) as u32;
-        judge_reason(alloc, problem, scores, search, reasons[at], part)?;
+        judge_reason(alloc, problem, recall, scores, search, reasons[at], part)?;
     }
     Ok(())
 }

@@ -5,10 +5,12 @@ ghost use Rattle.roster_model.specs.Goals.{IsGoal, IsNode};
 ghost use Rattle.cert_checker.specs.Given.{HasFewParts, HasSmallWeights, IsAsked, IsCountableProof};
 ghost use Rattle.cert_checker.specs.Faults.{Fails, IsStepFault};
 ghost use Rattle.cert_checker.specs.Stops.{GoesOver, Stops};
+ghost use Rattle.cert_checker.specs.Recalls.{IsRight};
 
 use crate::count::count;
 use crate::fixed::fixed;
 use crate::noline::noline;
+use crate::recall::Recall;
 use crate::refusal::{No, StepFault};
 use crate::split::split;
 use crate::weights::outweighed;
@@ -19,6 +21,7 @@ use std::alloc::Global;
 fn step(
     alloc: Global,
     problem: &Problem,
+    recall: &mut Recall,
     goal: &Goal,
     node: &mut Node,
     item: &Item,
@@ -26,9 +29,11 @@ fn step(
     requires asked { IsAsked problem.now goal.now node.old }
     requires small { HasSmallWeights item.now }
     requires countable { HasFewParts item.now }
+    requires right { IsRight problem.now recall.old }
     ensures goes { IfOk result (GoesOver problem.now goal.now node.old item.now node.new) }
     ensures node { IfOk result (λ is_open. is_open ≡ true → IsNode problem.now node.new) }
     ensures fault { IfErr result (IsStepFault (Fails problem.now goal.now node.old item.now)) }
+    ensures right { IsRight problem.now recall.new }
 {
     match item {
         Item::Split(member, pairing) => {
@@ -51,6 +56,7 @@ fn step(
             outweighed(
                 alloc,
                 problem,
+                recall,
                 goal,
                 node,
                 weights.as_slice(),
@@ -65,6 +71,7 @@ fn step(
 pub(crate) fn first_fault(
     alloc: Global,
     problem: &Problem,
+    recall: &mut Recall,
     goal: &Goal,
     search: u32,
     items: &[Item],
@@ -72,8 +79,10 @@ pub(crate) fn first_fault(
     requires goal { IsGoal problem.now goal.now }
     requires small { All HasSmallWeights items.now }
     requires countable { IsCountableProof items.now }
+    requires right { IsRight problem.now recall.old }
     ensures closed { OnOk result (Closes problem.now goal.now [] items.now) }
     ensures fault { IfErr result (Stops problem.now goal.now search items.now) }
+    ensures right { IsRight problem.now recall.new }
 {
     let mut node = Node::new(alloc);
     let mut is_open = true;
@@ -81,7 +90,7 @@ pub(crate) fn first_fault(
         if !is_open {
             return Err(No::Left(search));
         }
-        match step(alloc, problem, goal, &mut node, item) {
+        match step(alloc, problem, recall, goal, &mut node, item) {
             Ok(still_open) => is_open = still_open,
             Err(StepFault::Of(fault)) => return Err(No::Item(search, at as u32, fault)),
             Err(StepFault::NoMemory) => return Err(No::NoMemory),

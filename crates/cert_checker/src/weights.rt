@@ -5,8 +5,9 @@ ghost use Rattle.roster_model.specs.Weights.{AreSmallWeights, IsSmallWeight, nee
 ghost use Rattle.cert_checker.specs.Given.{AreFewParts, AreQuestions, HasFewWindows, IsAsked, IsQuestion};
 ghost use Rattle.cert_checker.specs.Faults.{AreWide, FindsMisshapen, IsStepFault, WeightsFails};
 ghost use Rattle.cert_checker.specs.Bests.{IsLinelessFault, IsNothingFault, IsWithin, LinesWeigh};
+ghost use Rattle.cert_checker.specs.Recalls.{IsRight};
 
-use crate::bests::best_weight;
+use crate::recall::{Recall, recalled_weight};
 use crate::refusal::{ItemFault, StepFault};
 use duty_calendar::Memory;
 use line_lens::{LensFault, check_lens};
@@ -72,6 +73,7 @@ fn needed_weight(problem: &Problem, weights: &[i64]) -> i64
 fn line_weight(
     alloc: Global,
     problem: &Problem,
+    recall: &mut Recall,
     goal: &Goal,
     node: &Node,
     weights: &[i64],
@@ -80,13 +82,15 @@ fn line_weight(
 ) -> Result<i64, StepFault>
     requires asked { IsQuestion problem.now member goal.now node.now lens.now weights.now }
     requires shape { IsLens problem.now member lens.now }
+    requires right { IsRight problem.now recall.old }
     ensures best { IfOk result
         (IsBestWeight problem.now member goal.now node.now lens.now weights.now) }
     ensures within { IfOk result (IsWithin 1288490188200) }
     ensures fault { IfErr result (IsStepFault
         (IsNothingFault problem.now goal.now node.now member lens.now)) }
+    ensures right { IsRight problem.now recall.new }
 {
-    match best_weight(alloc, problem, member, goal, node, lens, weights)? {
+    match recalled_weight(alloc, problem, recall, member, goal, node, lens, weights)? {
         Some(weight) => Ok(weight),
         None => Err(StepFault::Of(ItemFault::Nothing(member))),
     }
@@ -97,20 +101,32 @@ fn line_weight(
 fn best_weights(
     alloc: Global,
     problem: &Problem,
+    recall: &mut Recall,
     goal: &Goal,
     node: &Node,
     weights: &[i64],
     lenses: &[Lens],
 ) -> Result<i64, StepFault>
     requires asked { AreQuestions problem.now goal.now node.now weights.now lenses.now }
+    requires right { IsRight problem.now recall.old }
     ensures together { IfOk result
         (LinesWeigh problem.now goal.now node.now weights.now lenses.now) }
     ensures fault { IfErr result (IsStepFault
         (IsLinelessFault problem.now goal.now node.now lenses.now)) }
+    ensures right { IsRight problem.now recall.new }
 {
     let mut sum = 0;
     for (member, lens) in lenses.iter().enumerate() {
-        sum += line_weight(alloc, problem, goal, node, weights, member as u32, lens)?;
+        sum += line_weight(
+            alloc,
+            problem,
+            recall,
+            goal,
+            node,
+            weights,
+            member as u32,
+            lens,
+        )?;
     }
     Ok(sum)
 }
@@ -120,6 +136,7 @@ fn best_weights(
 pub(crate) fn outweighed(
     alloc: Global,
     problem: &Problem,
+    recall: &mut Recall,
     goal: &Goal,
     node: &Node,
     weights: &[i32],
@@ -128,10 +145,12 @@ pub(crate) fn outweighed(
     requires asked { IsAsked problem.now goal.now node.now }
     requires small { AreSmallWeights weights.now }
     requires few { AreFewParts weights.now lenses.now }
+    requires right { IsRight problem.now recall.old }
     ensures accepted { OnOk result
         (IsOutweighed problem.now goal.now node.now weights.now lenses.now) }
     ensures fault { IfErr result (IsStepFault
         (WeightsFails problem.now goal.now node.now weights.now lenses.now)) }
+    ensures right { IsRight problem.now recall.new }
 {
     if !are_wide(problem, weights, lenses) {
         let width = ItemFault::Width(weights.len() as u32, lenses.len() as u32);
@@ -141,7 +160,7 @@ pub(crate) fn outweighed(
         return Err(StepFault::Of(ItemFault::Lens(member, why)));
     }
     let wide = widened(alloc, weights)?;
-    let lines = best_weights(alloc, problem, goal, node, &wide, lenses)?;
+    let lines = best_weights(alloc, problem, recall, goal, node, &wide, lenses)?;
     let needs = needed_weight(problem, &wide);
     if lines < needs {
         return Ok(());

@@ -36,3 +36,6 @@ returns-clause-answered c =
 
 pub returns-clause-sound : goal.returns-clause-sound
 returns-clause-sound c = closes_sound c.args.problem.now
+
+pub judge_places-requires-clause-right : goal.judge_places-requires-clause-right
+judge_places-requires-clause-right c = c.new-recall.ensures.right c.args.problem.now

@@ -13,3 +13,6 @@ returns-clause-none c =
 
 pub returns-clause-sound : goal.returns-clause-sound
 returns-clause-sound c = closes_sound c.args.problem.now
+
+pub first_fault-requires-clause-right : goal.first_fault-requires-clause-right
+first_fault-requires-clause-right c = c.new-recall.ensures.right c.args.problem.now

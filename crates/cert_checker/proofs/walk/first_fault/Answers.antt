@@ -9,6 +9,7 @@ loop-at-preserved c = record {
       Leads-more c.args.problem.now c.args.goal.now ([] ∷ []) (open_nodes c.in-Ok.still_open c.step.new.node) c.args.items.now c.loop-at.at c.index-items-at.result c.loop-at.is_open c.loop-at.node
       c.loop-at-test.true c.index-items-at.is c.if-not-is_open.false c.loop-at.invariant.leads c.in-Ok.ensures.goes;
   node = c.in-Ok.ensures.node;
+  right = c.in-Ok.ensures.right;
 }
 
 pub returns-clause-closed : goal.returns-clause-closed

@@ -29,4 +29,5 @@ loop-member-preserved c =
       within =
           subst (λ (z : ℤ). IsWithin ((k + 1) * 1288490188200) z) (sym new)
           (sum_within (k * 1288490188200) 1288490188200 ((k + 1) * 1288490188200) sum c.in_ok-sum.field-0 (omega arith) c.loop-member.invariant.within c.in_ok-sum.ensures.within);
+      right = c.in_ok-sum.ensures.right;
     }
