@@ -1,6 +1,6 @@
 -- What the parts of the judge's answer on denials say together.
-use Rattle.std.proofs.Common.{◌≡◌, ℕ, zero, suc, ◌+◌, ◌*◌, ◌^◌, ◌<◌, ◌≤◌, false, List, [], ◌∷◌, length, get_or, Some, refl, sym, ap, subst, ◌∙◌, arith, inl, inr, ◌⊎◌}
-use Rattle.std.specs.Prelude.{All, slice_get, unwrap_or}
+use Rattle.std.proofs.Common.{◌≡◌, ℕ, zero, suc, ◌+◌, ◌*◌, ◌^◌, ◌<◌, ◌≤◌, false, List, [], ◌∷◌, length, get_or, Some, Result, Ok, Err, refl, sym, ap, subst, ◌∙◌, arith, inl, inr, ◌⊎◌}
+use Rattle.std.specs.Prelude.{All, IfErr, IsErrAnd, slice_get, unwrap_or}
 use Rattle.std.proofs.lemmas.Bool.{cases_eq, cases_order, cases_Bool, true≢false}
 use Rattle.std.proofs.lemmas.Option.{slice_get_within, slice_get-get_or}
 use Rattle.std.proofs.lemmas.List.Elements.{All-head, All-tail}
@@ -16,7 +16,7 @@ use Rattle.cert_checker.specs.declared.refusal.No.{No}
 use Rattle.cert_checker.specs.declared.refusal.No.TheVariants as no
 use Rattle.cert_checker.specs.Given.{NameBids}
 use Rattle.cert_checker.specs.Reasons.{IsMislistedIn, IsRightList, IsFirstMislisted, misplaced, past_last, granted_listed, denied_missing}
-use Rattle.cert_checker.specs.Unshown.{AreShownBefore, IsFirstUnshown}
+use Rattle.cert_checker.specs.Unshown.{AreShownBefore, IsFirstUnshown, IsUnshown}
 use Rattle.cert_checker.specs.Awards.{DenialsFail, HaveRightPlaces, IsWrongList, NamesFault}
 use Rattle.cert_checker.proofs.Stopped.{stopped}
 use Rattle.cert_checker.proofs.Shapes.{all_at}
@@ -276,6 +276,29 @@ pub shown_all : (problem : Problem) (scores : List ℕ) (reasons : List Denial) 
     → AreShownBefore problem scores reasons shown count → AreShownBefore problem scores reasons shown (length reasons)
 shown_all problem scores reasons shown count all before at denial part lt here there =
     before at denial part (omega (arith, lt, all)) here there
+
+pub shown_none : (problem : Problem) (scores : List ℕ) (reasons : List Denial) (shown : List Shown) → AreShownBefore problem scores reasons shown 0
+shown_none problem scores reasons shown at denial part lt here there = absurd (omega (arith, lt))
+
+-- the first reason that is not shown, as it is handed on
+pub first_at : {A : Type 0} (problem : Problem) (scores : List ℕ) (reasons : List Denial) (shown : List Shown) (at search : ℕ) (d : Denial) (part : Shown) (why : No) (result : Result A No)
+    → IsErrAnd result (λ e. e ≡ why) → length scores ≡ length problem.base.members → search ≡ length scores + at
+    → at < length reasons → slice_get shown at ≡ Some part → AreShownBefore problem scores reasons shown at
+    → IsUnshown problem scores search (get_or reasons at d) part why → IfErr result (IsFirstUnshown problem scores reasons shown)
+first_at problem scores reasons shown at search d part why (Ok x) is members numbered lt beside before unshown = absurd is
+first_at problem scores reasons shown at search d part why (Err e) is members numbered lt beside before unshown =
+    subst (λ (w : No). IsFirstUnshown problem scores reasons shown w) (sym is)
+    (record {
+      at = at;
+      denial = get_or reasons at d;
+      part = part;
+      reason = slice_get-get_or reasons at d lt;
+      beside = beside;
+      before = before;
+      unshown =
+          subst (λ (k : ℕ). IsUnshown problem scores k (get_or reasons at d) part why)
+          (numbered ∙ ap (λ (k : ℕ). k + at) members) unshown;
+    })
 
 -- the same of slices that hold the reasons and the parts, and of scores that are read
 module _ (problem : Problem) (roster : List (List ℕ)) (reasons slice : List Denial) (e : slice ≡ reasons) where

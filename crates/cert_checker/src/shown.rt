@@ -5,7 +5,9 @@ ghost use Rattle.roster_model.specs.Denials.{HasItsParts, IsShown, has_proof, ha
 ghost use Rattle.cert_checker.specs.Given.{HasCountableProof, HasSmallProof, IsReasonAsked, NameBids};
 ghost use Rattle.cert_checker.specs.Unshown.{AreAllShown, IsFirstUnshown, IsProofShown, IsRosterShown, IsUnshown, ProofFails, RosterFails};
 ghost use Rattle.cert_checker.specs.Recalls.{IsRight};
+ghost use Rattle.cert_checker.specs.Legals.{AreLegalLines};
 
+use crate::legals::Legals;
 use crate::reasons::place_of;
 use crate::recall::Recall;
 use crate::refusal::No;
@@ -71,19 +73,22 @@ fn judge_proof(
 fn judge_roster(
     alloc: Global,
     problem: &Problem,
+    legals: &mut Legals,
     scores: &[u32],
     denial: Denial,
     shown: &Shown,
 ) -> Result<(), No>
     requires members { length scores.now ≡ length problem.now.base.members }
     requires bid { IsBidOf problem.now denial.bid }
+    requires legal { AreLegalLines problem.now legals.old }
     ensures witness { OnOk result (IsRosterShown problem.now scores.now denial shown.now) }
     ensures fault { IfErr result (RosterFails problem.now scores.now denial shown.now) }
+    ensures legal { AreLegalLines problem.now legals.new }
 {
     match &shown.roster {
         None => Ok(()),
         Some(roster) => {
-            if is_witness(alloc, problem, scores, denial, roster)? {
+            if is_witness(alloc, problem, legals, scores, denial, roster)? {
                 Ok(())
             } else {
                 Err(No::Shown(denial.bid.member, denial.bid.bid))
@@ -97,6 +102,7 @@ fn judge_reason(
     alloc: Global,
     problem: &Problem,
     recall: &mut Recall,
+    legals: &mut Legals,
     scores: &[u32],
     search: u32,
     denial: Denial,
@@ -104,15 +110,17 @@ fn judge_reason(
 ) -> Result<(), No>
     requires asked { IsReasonAsked problem.now scores.now denial shown.now }
     requires right { IsRight problem.now recall.old }
+    requires legal { AreLegalLines problem.now legals.old }
     ensures shown { OnOk result (IsShown problem.now scores.now denial shown.now) }
     ensures fault { IfErr result (IsUnshown problem.now scores.now search denial shown.now) }
     ensures right { IsRight problem.now recall.new }
+    ensures legal { AreLegalLines problem.now legals.new }
 {
     if !has_its_parts(denial.cause, shown) {
         return Err(No::Shown(denial.bid.member, denial.bid.bid));
     }
     judge_proof(alloc, problem, recall, scores, search, denial, shown)?;
-    judge_roster(alloc, problem, scores, denial, shown)
+    judge_roster(alloc, problem, legals, scores, denial, shown)
 }
 
 /// The first reason that is not shown, and what is wrong with it.
@@ -136,9 +144,19 @@ pub(crate) fn first_unshown(
     ensures fault { IfErr result (IsFirstUnshown problem.now scores.now reasons.now shown.now) }
     ensures right { IsRight problem.now recall.new }
 {
+    let mut legals = Legals::new(alloc);
     for (at, part) in shown.iter().enumerate() {
         let search = (scores.len() + at) as u32;
-        judge_reason(alloc, problem, recall, scores, search, reasons[at], part)?;
+        judge_reason(
+            alloc,
+            problem,
+            recall,
+            &mut legals,
+            scores,
+            search,
+            reasons[at],
+            part,
+        )?;
     }
     Ok(())
 }
