@@ -442,6 +442,33 @@ impl Kept {
         }
         let mut profile = known_of(problem, owner, &line, pairings);
         profile.broken = broken(alloc, problem, owner, &line)?;
+        self.keep_as(problem, member, line, profile)
+    }
+
+    /// Keeps a line that was found to be legal before, and says its number; none where there is no room for it.
+    pub fn keep_legal(
+        &mut self,
+        problem: &Problem,
+        member: usize,
+        line: Line,
+    ) -> Result<Option<usize>, Memory> {
+        let pairings = PairingSet::of(line.pairings());
+        if let Some(place) = self.place_of(member, &pairings) {
+            return Ok(Some(place));
+        }
+        let profile = known_of(problem, number(member), &line, pairings);
+        self.keep_as(problem, member, line, profile)
+    }
+
+    /// Keeps a line of which this is known, and says its number; none where there is no room for it.
+    fn keep_as(
+        &mut self,
+        problem: &Problem,
+        member: usize,
+        line: Line,
+        profile: Profile,
+    ) -> Result<Option<usize>, Memory> {
+        let owner = number(member);
         let place = self.len(member);
         offer(&mut self.pool, problem, owner, line)?;
         let (Some(profiles), Some(flat)) = (

@@ -3,6 +3,7 @@
 use crate::guide::Guide;
 use duty_calendar::{Copied, Memory};
 use line_mixes::{Board, Care, Columns, Kept, Mix, Program};
+use roster_guesses::program_of;
 use roster_model::{Awarded, Goal, Item, Problem, Proof, Roster};
 use std::alloc::Global;
 
@@ -73,20 +74,23 @@ fn serving(
     Ok(Some(columns))
 }
 
-/// Whether kept lines alone can be mixed for the goal so that hardly anything is missed.
+/// Whether kept lines alone can be mixed for the goal so that hardly anything is missed. The program is kept, since the next
+/// one begins where it ends.
 pub(crate) fn is_mixed(
     alloc: Global,
     problem: &Problem,
-    kept: &Kept,
+    kept: &mut Kept,
     goal: &Goal,
     warm: Option<&Mix>,
 ) -> Result<bool, Memory> {
     let Some(columns) = serving(alloc, problem, kept, goal)? else {
         return Ok(false);
     };
-    let mut program = Program::begun(alloc, problem, kept, &columns, warm)?;
+    let mut program = program_of(alloc, problem, kept, &columns, warm)?;
     program.solve(alloc, kept, &columns, MOST_CHANGES, LITTLE)?;
-    Ok(program.misses() <= LITTLE)
+    let is_solved = program.misses() <= LITTLE;
+    kept.keep_program(program);
+    Ok(is_solved)
 }
 
 impl Guide {
@@ -96,7 +100,7 @@ impl Guide {
         !self.learned.is_empty() && members.saturating_add(pairings) <= MOST_ROWS
     }
 
-    /// Keeps the lines of a roster.
+    /// Keeps the lines of a roster that was judged to be complete.
     fn keep_lines(
         &mut self,
         alloc: Global,
@@ -104,7 +108,7 @@ impl Guide {
         roster: &Roster,
     ) -> Result<(), Memory> {
         for (member, line) in roster.as_slice().iter().enumerate() {
-            self.kept.keep(alloc, problem, member, line.copy(alloc)?)?;
+            self.kept.keep_legal(problem, member, line.copy(alloc)?)?;
         }
         Ok(())
     }

@@ -21,7 +21,7 @@ pub use covering::cover;
 pub use diving::dive;
 pub use known::{AllKnown, Known};
 pub use lenses::{plainer, plainer_without_line};
-pub use mastering::is_worth_while;
+pub use mastering::{is_worth_while, program_of};
 pub use relaxing::{Relaxed, relax};
 pub use repairing::repair;
 pub use testing::Bounded;

@@ -5,7 +5,7 @@ ghost use Rattle.roster_model.specs.Goals.{IsGoal};
 use crate::relaxing::Relaxed;
 use crate::testing::{Balance, Bounded, DEAR, Leaf, bounds_of, test_member, weighed};
 use duty_calendar::Memory;
-use line_mixes::{Board, Care, Columns, Kept, Mix, Priced, Program, WHOLE, price_briefly};
+use line_mixes::{Board, Care, Columns, Kept, Mix, Priced, Program, WHOLE, number, price_briefly};
 use roster_model::{Goal, Problem};
 use std::alloc::Global;
 use std::num::{nearest_i64_to_f64, saturating_f64_to_i64};
@@ -106,6 +106,73 @@ fn test_briefly(
     Ok(())
 }
 
+/// Looks once more for a line of a member of whom one was found, above the heaviest known one and the member's share of what
+/// may be weighed more; tells whether there is none.
+fn settle_member(
+    alloc: Global,
+    problem: &Problem,
+    kept: &mut Kept,
+    goal: &Goal,
+    board: &Board,
+    columns: &mut Columns,
+    weights: &[i64],
+    member: usize,
+    care: Care,
+    balance: &mut Balance,
+    leaf: &mut Leaf,
+) -> Result<bool, Memory>
+    requires goal { IsGoal problem.now goal.now }
+{
+    let row = board.row(member);
+    let over = balance.with_slack(leaf.most(member));
+    match price_briefly(
+        alloc, problem, kept, member, goal, &row, weights, over, care,
+    )? {
+        Priced::Line(place, weight) => leaf.found(columns, balance, member, place, weight)?,
+        Priced::Unknown => {}
+        Priced::Nothing(lens) => {
+            leaf.set(member, lens, over);
+            balance.spend();
+            return Ok(true);
+        }
+    }
+    Ok(false)
+}
+
+/// Looks once more at the members of whom lines were found, who share with the dear ones what may be weighed above the known
+/// lines, as long as these weigh less than the needs. Where none has another line, the leaf may close after all.
+fn settle(
+    alloc: Global,
+    problem: &Problem,
+    kept: &mut Kept,
+    goal: &Goal,
+    board: &Board,
+    columns: &mut Columns,
+    weights: &[i64],
+    care: Care,
+    balance: &mut Balance,
+    leaf: &mut Leaf,
+) -> Result<(), Memory>
+    requires goal { IsGoal problem.now goal.now }
+{
+    let risen = leaf.take_risen(alloc);
+    let mut left = count_dear(problem, kept, board).saturating_add(number(risen.len()));
+    for member in &risen {
+        if balance.is_reached() {
+            return Ok(());
+        }
+        balance.share(left);
+        left = left.saturating_sub(1);
+        if !settle_member(
+            alloc, problem, kept, goal, board, columns, weights, *member, care, balance, leaf,
+        )? {
+            return Ok(());
+        }
+    }
+    leaf.is_closing = true;
+    Ok(())
+}
+
 /// How many members are dear, and not decided whole.
 fn count_dear(problem: &Problem, kept: &Kept, board: &Board) -> u32 {
     let mut count: u32 = 0;
@@ -154,8 +221,9 @@ fn test_dear(
     Ok(())
 }
 
-/// Whether the weights close the node: all members that are not dear are searched, and the dear ones as long as the lines
-/// that are known weigh less than the needs. Lines that are found join the columns.
+/// Whether the weights close the node: all members that are not dear are searched; then, as long as the lines that are known
+/// weigh less than the needs, those of whom lines were found once more, and the dear ones. Lines that are found join the
+/// columns.
 fn test_all(
     alloc: Global,
     problem: &Problem,
@@ -189,6 +257,18 @@ fn test_all(
             &mut leaf,
         )?;
     }
+    settle(
+        alloc,
+        problem,
+        kept,
+        goal,
+        board,
+        columns,
+        &weights,
+        care,
+        &mut balance,
+        &mut leaf,
+    )?;
     test_dear(
         alloc,
         problem,
@@ -289,7 +369,7 @@ fn worked(
 }
 
 /// The program of these columns: the last one goes on, if it may.
-fn program_of(
+pub fn program_of(
     alloc: Global,
     problem: &Problem,
     kept: &mut Kept,
@@ -304,6 +384,14 @@ fn program_of(
         }
     }
     Program::begun(alloc, problem, kept, columns, warm)
+}
+
+/// The weights that were tested before, with which the next relaxation begins where none are tested in this one.
+fn tested_before(alloc: Global, problem: &Problem, warm: Option<&Mix>) -> Result<Vec<i64>, Memory> {
+    match warm {
+        Some(warm) => warm.weights(alloc),
+        None => Ok(vec![in alloc; 0i64; problem.base.pairings.len()]?),
+    }
 }
 
 /// The relaxation by programs over these columns.
@@ -323,7 +411,7 @@ pub(crate) fn mastered(
     let mut work = Work {
         program: program_of(alloc, problem, kept, columns, warm)?,
         worth: Vec::new(alloc),
-        weights: vec![in alloc; 0i64; problem.base.pairings.len()]?,
+        weights: tested_before(alloc, problem, warm)?,
     };
     let leaf = worked(
         alloc, problem, kept, goal, board, columns, most, care, &mut work,

@@ -8,6 +8,7 @@ use line_mixes::{
 };
 use roster_model::{Goal, Lens, Problem};
 use std::alloc::Global;
+use std::mem::replace;
 
 /// For how many searches a member is held to be dear.
 pub(crate) const DEAR: u32 = 4;
@@ -31,12 +32,14 @@ pub(crate) struct Balance {
     slack: i64,
 }
 
-/// A leaf that grows member by member: what no line of a member is above, by its lens, begins with its columns.
+/// A leaf that grows member by member: what no line of a member is above, by its lens, begins with its columns. The members
+/// that have risen are those of whom a line was found.
 #[derive(Drop)]
 pub(crate) struct Leaf {
     lenses: List<Lens>,
     bounds: Vec<i64>,
     overs: Vec<i64>,
+    risen: Vec<usize>,
     pub(crate) is_closing: bool,
 }
 
@@ -51,6 +54,11 @@ impl Balance {
     /// A member has its slack.
     pub(crate) fn spend(&mut self) {
         self.sum = self.sum.wrapping_add(self.slack);
+    }
+
+    /// So much, and a member's slack.
+    pub(crate) fn with_slack(&self, most: i64) -> i64 {
+        most.wrapping_add(self.slack)
     }
 
     /// Lets a member weigh so much more.
@@ -75,8 +83,14 @@ impl Leaf {
             lenses: first_lenses(alloc, problem)?,
             bounds,
             overs,
+            risen: Vec::new(alloc),
             is_closing: true,
         })
+    }
+
+    /// Hands out the members that have risen.
+    pub(crate) fn take_risen(&mut self, alloc: Global) -> Vec<usize> {
+        replace(&mut self.risen, Vec::new(alloc))
     }
 
     /// The member has no line above this, by the lens.
@@ -89,7 +103,7 @@ impl Leaf {
         }
     }
 
-    /// A line of the member was found, which joins the columns where it is above these.
+    /// A line of the member was found, which joins the columns where it is above these, and is the heaviest known from then on.
     pub(crate) fn found(
         &mut self,
         columns: &mut Columns,
@@ -100,11 +114,20 @@ impl Leaf {
     ) -> Result<(), Memory> {
         let most = self.most(member);
         self.is_closing = false;
+        self.risen.push(member)?;
         if weight > most {
             balance.sum = balance.sum.wrapping_add(weight.wrapping_sub(most));
+            self.raise(member, weight);
             columns.add(member, place)?;
         }
         Ok(())
+    }
+
+    /// The heaviest known line of the member weighs so much.
+    fn raise(&mut self, member: usize, weight: i64) {
+        if let Some(bound) = self.bounds.get_mut(member) {
+            *bound = weight.wrapping_sub(1);
+        }
     }
 
     /// What the heaviest known line of the member weighs.
@@ -204,7 +227,7 @@ pub(crate) fn test_member(
         return Ok(());
     }
     let most = leaf.most(member);
-    let over = most.wrapping_add(balance.slack);
+    let over = balance.with_slack(most);
     match price_noting(
         alloc, problem, kept, member, goal, &row, weights, over, care,
     )? {
