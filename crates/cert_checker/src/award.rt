@@ -10,6 +10,7 @@ ghost use Rattle.cert_checker.specs.Awards.{AreAllClosed, AreAnswered, DenialsFa
 ghost use Rattle.cert_checker.specs.Recalls.{IsRight};
 
 use crate::goals::goal_above;
+use crate::noted::Noted;
 use crate::reasons::first_mislisted;
 use crate::recall::Recall;
 use crate::refusal::No;
@@ -46,9 +47,37 @@ pub fn judge(
     ensures answered { OnOk result (AreAnswered problem.now roster.now reasons.now awarded.now) }
     ensures sound { IsClosingSound problem.now }
 {
+    let mut noted = List::new(alloc);
+    judge_noting(alloc, problem, roster, reasons, awarded, &mut noted)
+}
+
+/// As `judge`. Where the places have their proofs, the heaviest lines that were found on the way are
+/// handed out, for whoever looks for an award of a month that differs by little.
+pub fn judge_noting(
+    alloc: Global,
+    problem: &Problem,
+    roster: &Roster,
+    reasons: &Reasons,
+    awarded: &Awarded,
+    noted: &mut List<Noted>,
+) -> Result<(), No>
+    requires lines { length roster.now ≡ length problem.now.base.members }
+    requires pairings { AreInRange problem.now roster.now }
+    requires bids { NameBids problem.now reasons.now }
+    requires small { HaveSmallWeights awarded.now.proofs }
+    requires countable { IsCountable awarded.now.proofs }
+    requires small_shown { All HasSmallProof awarded.now.shown }
+    requires countable_shown { AreCountableParts awarded.now.shown }
+    ensures accepted { OnOk result (IsAwarded problem.now roster.now reasons.now awarded.now) }
+    ensures first { IfErr result (IsFirstNo problem.now roster.now reasons.now awarded.now) }
+    ensures refused { Excludes result (IsAwarded problem.now roster.now reasons.now awarded.now) }
+    ensures greatest { OnOk result (IsGreatest problem.now roster.now) }
+    ensures answered { OnOk result (AreAnswered problem.now roster.now reasons.now awarded.now) }
+    ensures sound { IsClosingSound problem.now }
+{
     let mut recall = Recall::new(alloc);
     let scores = judge_places(alloc, problem, &mut recall, roster, &awarded.proofs)?;
-    judge_denials(
+    let judged = judge_denials(
         alloc,
         problem,
         &mut recall,
@@ -56,7 +85,9 @@ pub fn judge(
         scores.as_slice(),
         reasons,
         &awarded.shown,
-    )
+    );
+    *noted = recall.noted;
+    judged
 }
 
 /// The lines, crews and place proofs of an award alone, with no word on its denied bids: the scores

@@ -50,6 +50,35 @@ fn best_line<L: Ledger>(
     )
 }
 
+/// A line of the member that passes the lens, of the greatest weight, or nothing where no line
+/// passes.
+pub(crate) fn heaviest_line(
+    alloc: Global,
+    problem: &Problem,
+    member: u32,
+    goal: &Goal,
+    node: &Node,
+    lens: &Lens,
+    weights: &[i64],
+) -> Result<Option<PricedLine>, StepFault>
+    requires asked { IsQuestion problem.now member goal.now node.now lens.now weights.now }
+    ensures shape { OnOk result (IsLens problem.now member lens.now) }
+    ensures fault { IfErr result (IsStepFault (IsShapeFault problem.now member lens.now)) }
+    ensures best { IfOk result (λ answer. IfSome answer (λ b.
+        IsBestWeight problem.now member goal.now node.now lens.now weights.now b.weight)) }
+    ensures within { IfOk result (λ answer. IfSome answer (λ b. IsWithin 1288490188200 b.weight)) }
+    ensures none { IfOk result (λ answer. IfNone answer
+        (HasNoLine problem.now member goal.now node.now lens.now)) }
+{
+    let blank = Blank::new(1);
+    match best_line::<Brand>(alloc, problem, member, goal, node, lens, weights, blank) {
+        Ok(Some(priced)) => Ok(Some(priced)),
+        Ok(None) => Ok(None),
+        Err(BestFault::Lens(why)) => Err(StepFault::Of(ItemFault::Lens(member, why))),
+        Err(BestFault::NoMemory) => Err(StepFault::NoMemory),
+    }
+}
+
 /// The greatest weight of the member's lines that pass the lens, or nothing where no line passes.
 pub(crate) fn best_weight(
     alloc: Global,
@@ -69,11 +98,9 @@ pub(crate) fn best_weight(
     ensures none { IfOk result (λ answer. IfNone answer
         (HasNoLine problem.now member goal.now node.now lens.now)) }
 {
-    let blank = Blank::new(1);
-    match best_line::<Brand>(alloc, problem, member, goal, node, lens, weights, blank) {
+    match heaviest_line(alloc, problem, member, goal, node, lens, weights) {
         Ok(Some(priced)) => Ok(Some(priced.weight)),
         Ok(None) => Ok(None),
-        Err(BestFault::Lens(why)) => Err(StepFault::Of(ItemFault::Lens(member, why))),
-        Err(BestFault::NoMemory) => Err(StepFault::NoMemory),
+        Err(fault) => Err(fault),
     }
 }

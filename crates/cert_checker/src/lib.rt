@@ -9,6 +9,7 @@ mod fixed;
 mod goals;
 mod legals;
 mod noline;
+mod noted;
 mod reasons;
 mod recall;
 mod refusal;
@@ -18,5 +19,6 @@ mod walk;
 mod weights;
 mod witness;
 
-pub use award::{judge, judge_none};
+pub use award::{judge, judge_none, judge_noting};
+pub use noted::Noted;
 pub use refusal::{ItemFault, No};

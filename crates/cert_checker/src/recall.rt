@@ -7,10 +7,11 @@ ghost use Rattle.cert_checker.specs.Faults.{IsStepFault};
 ghost use Rattle.cert_checker.specs.Bests.{IsShapeFault, IsWithin};
 ghost use Rattle.cert_checker.specs.Recalls.{AsksAlone, IsAnswerTo, IsRight, IsRightAnswer, IsRightSheet, IsSheetOf, answer_of};
 
-use crate::bests::best_weight;
+use crate::bests::{best_weight, heaviest_line};
+use crate::noted::Noted;
 use crate::refusal::StepFault;
 use duty_calendar::{Copied, List, Memory};
-use roster_model::{Goal, Lens, Node, Problem};
+use roster_model::{Goal, Lens, Line, Node, Problem};
 use std::alloc::Global;
 
 /// So many sheets are kept at most.
@@ -36,10 +37,15 @@ pub(crate) struct Sheet {
     answers: List<Answer>,
 }
 
-/// Answers that were found before in one judgement.
+/// So many lines are noted at most.
+const MOST_NOTED: usize = 4096;
+
+/// Answers that were found before in one judgement, and the heaviest lines that were found for
+/// them, of which nothing is said.
 #[derive(Drop)]
 pub(crate) struct Recall {
     sheets: List<Sheet>,
+    pub(crate) noted: List<Noted>,
 }
 
 impl Recall {
@@ -49,6 +55,7 @@ impl Recall {
     {
         Recall {
             sheets: List::new(alloc),
+            noted: List::new(alloc),
         }
     }
 }
@@ -195,6 +202,47 @@ fn keep(
     }
 }
 
+/// Notes a line of the member where there is room.
+fn note(noted: &mut List<Noted>, member: u32, line: Line) -> Result<(), Memory> {
+    if noted.len() >= MOST_NOTED {
+        return Ok(());
+    }
+    match noted.push(Noted { member, line }) {
+        Ok(()) => Ok(()),
+        Err(_) => Err(Memory::NoMemory),
+    }
+}
+
+/// The greatest weight of the member's lines that pass the lens, or nothing where no line passes. The
+/// line that weighs so much is noted.
+fn noted_weight(
+    alloc: Global,
+    problem: &Problem,
+    noted: &mut List<Noted>,
+    member: u32,
+    goal: &Goal,
+    node: &Node,
+    lens: &Lens,
+    weights: &[i64],
+) -> Result<Option<i64>, StepFault>
+    requires asked { IsQuestion problem.now member goal.now node.now lens.now weights.now }
+    requires shape { IsLens problem.now member lens.now }
+    ensures best { IfOk result (λ answer. IfSome answer
+        (IsBestWeight problem.now member goal.now node.now lens.now weights.now)) }
+    ensures within { IfOk result (λ answer. IfSome answer (IsWithin 1288490188200)) }
+    ensures none { IfOk result (λ answer. IfNone answer
+        (HasNoLine problem.now member goal.now node.now lens.now)) }
+    ensures fault { IfErr result (IsStepFault (IsShapeFault problem.now member lens.now)) }
+{
+    match heaviest_line(alloc, problem, member, goal, node, lens, weights)? {
+        Some(priced) => {
+            note(noted, member, priced.line)?;
+            Ok(Some(priced.weight))
+        }
+        None => Ok(None),
+    }
+}
+
 /// The greatest weight of the member's lines that pass the lens, or nothing where no line passes:
 /// what was found before, where this was asked before, and else what is found now. Answers are kept
 /// for the node without decisions alone, and where the goal's bid is not one of the member's.
@@ -226,7 +274,16 @@ pub(crate) fn recalled_weight(
     if let Some(best) = recalled(recall.sheets.as_slice(), weights, member, floor, lens) {
         return Ok(best);
     }
-    let best = best_weight(alloc, problem, member, goal, node, lens, weights)?;
+    let best = noted_weight(
+        alloc,
+        problem,
+        &mut recall.noted,
+        member,
+        goal,
+        node,
+        lens,
+        weights,
+    )?;
     let answer = Answer {
         member,
         floor,

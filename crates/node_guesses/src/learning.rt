@@ -4,7 +4,7 @@ use crate::guide::Guide;
 use duty_calendar::{Copied, Memory};
 use line_mixes::{Board, Care, Columns, Kept, Mix, Program};
 use roster_guesses::program_of;
-use roster_model::{Awarded, Goal, Item, Problem, Proof, Roster};
+use roster_model::{Awarded, Goal, Item, Line, Problem, Proof, Roster};
 use std::alloc::Global;
 
 /// How much may be missed by a program that counts as solved.
@@ -152,6 +152,19 @@ impl Guide {
         self.keep_weights(alloc, awarded.proofs.as_slice())?;
         self.kept.hold_dear(0, 0);
         self.known.add(alloc, problem, roster)
+    }
+
+    /// Keeps a line of the member that was found elsewhere.
+    pub fn offer(
+        &mut self,
+        alloc: Global,
+        problem: &Problem,
+        member: u32,
+        line: &Line,
+    ) -> Result<(), Memory> {
+        self.kept
+            .keep(alloc, problem, member as usize, line.copy(alloc)?)?;
+        Ok(())
     }
 
     /// Lets the roots of a place begin with the weights that were learned of it, if there are any.

@@ -13,6 +13,7 @@ ghost use Rattle.roster_text.specs.ReasonWords.{member_named};
 ghost use Rattle.roster_text.specs.RosterText.{member_name};
 ghost use Rattle.shelf.specs.Files.{Files};
 ghost use Rattle.shelf.specs.Logs.{Entries};
+ghost use Rattle.weight_certificates.specs.Setup.{IsMadeFor};
 ghost use Rattle.what_if.specs.Reused.{AgreeBut};
 ghost use Rattle.plan_commands.specs.Asking.{Asked, asked_in, claimed_in, again_draft, IsReadableRoster, IsQuestion, IsUnasked, IsStanding, IsUnclaimed, IsFirstOther, FindsAgain, IsMiss, IsClaimEnd, IsAskedIn, HasWhatIf, IsRun, IsRunHanded, asking_order};
 ghost use Rattle.plan_commands.specs.AskingEnds.{AskingCause, whatif_written};
@@ -23,7 +24,7 @@ use award_loop::Outcome;
 use bid_language::read_bids;
 use bid_score::scores_of;
 use branch_log::Ledger;
-use cert_checker::judge;
+use cert_checker::{Noted, judge_noting};
 use cert_text::read_certificate;
 use duty_calendar::{Copied, List, Memory};
 use month_files::{Draft, File, Texts, Unread, read_file, read_month, read_texts, write_all};
@@ -140,11 +141,12 @@ fn ask(alloc: Global, texts: &AskedTexts, name: &[u8]) -> Result<Question, WhatI
     }
 }
 
-/// The roster of the award, where the judge accepts it with its reasons.
+/// The roster of the award, where the judge accepts it with its reasons. Lines that it found are noted.
 fn standing(
     alloc: Global,
     question: &Question,
     claimed: &ClaimedTexts,
+    noted: &mut List<Noted>,
 ) -> Result<Roster, WhatIfStop>
     requires limits { is_certificate (AwardForm question.now.awarded) ≡ true }
     requires brief { IsBrief (view_claimed claimed.now) }
@@ -154,12 +156,13 @@ fn standing(
 {
     let roster = read_roster(alloc, &claimed.roster, &question.problem)?;
     let reasons = read_reasons(alloc, &claimed.reasons, &question.problem)?;
-    judge(
+    judge_noting(
         alloc,
         &question.problem,
         &roster,
         &reasons,
         &question.awarded,
+        noted,
     )?;
     Ok(roster)
 }
@@ -242,11 +245,30 @@ fn said(alloc: Global, problem: &Problem, roster: &Roster, nodes: u32) -> Result
     })
 }
 
+/// A closer that has learned from the award, and knows the lines that were noted.
+fn learned(
+    alloc: Global,
+    question: &Question,
+    roster: &Roster,
+    noted: &[Noted],
+) -> Result<Rounds, Memory>
+    ensures rounds { IfOk result (λ made. made.rounds ≡ 400) }
+    ensures fits { IfOk result (λ made. IsMadeFor made question.now.other) }
+{
+    let mut closer = Rounds::new(alloc, &question.other, ROUNDS)?;
+    closer.learn(alloc, &question.other, roster, &question.awarded)?;
+    for one in noted {
+        closer.offer(alloc, &question.other, one.member, &one.line)?;
+    }
+    Ok(closer)
+}
+
 /// The award with the other bids, with so many nodes at most; the proofs of more senior places are those of the award.
 fn again(
     alloc: Global,
     question: &Question,
     roster: &Roster,
+    noted: &[Noted],
     nodes: u32,
 ) -> Result<WhatIf, WhatIfStop>
     requires agree { AgreeBut question.now.problem question.now.other question.now.member }
@@ -255,8 +277,7 @@ fn again(
     ensures found { IfOk result (FindsAgain question.now roster.now nodes) }
     ensures miss { IfErr result (IsMiss question.now nodes) }
 {
-    let mut closer = Rounds::new(alloc, &question.other, ROUNDS)?;
-    closer.learn(alloc, &question.other, roster, &question.awarded)?;
+    let mut closer = learned(alloc, question, roster, noted)?;
     let mut ledger = Ledger::new(alloc, nodes, ROUNDS)?;
     match what_if(
         alloc,
@@ -287,12 +308,13 @@ fn answer(
     requires brief { IsBrief (view_claimed claimed.now) }
     ensures end { IsClaimEnd question.now (view_claimed claimed.now) nodes result }
 {
-    let roster = standing(alloc, question, claimed)?;
+    let mut noted = List::new(alloc);
+    let roster = standing(alloc, question, claimed, &mut noted)?;
     if let Some(other) = first_other(question) {
         let name = name_of(alloc, &question.problem, other)?;
         return Err(WhatIfStop::No(Unasked::Bids(name)));
     }
-    again(alloc, question, &roster, nodes)
+    again(alloc, question, &roster, noted.as_slice(), nodes)
 }
 
 /// Writes the roster with the other bids.

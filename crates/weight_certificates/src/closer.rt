@@ -6,7 +6,7 @@ use crate::closing::close_node;
 use branch_log::{Closer, Verdict};
 use duty_calendar::Memory;
 use node_guesses::Guide;
-use roster_model::{Awarded, BidRef, Goal, Node, Problem, Roster};
+use roster_model::{Awarded, BidRef, Goal, Line, Node, Problem, Roster};
 use std::alloc::Global;
 use std::marker::Model;
 
@@ -59,6 +59,19 @@ impl Rounds {
         ensures same { self.new ≡ self.old }
     {
         self.guide.learn(alloc, problem, roster, awarded)
+    }
+
+    /// Keeps a line of the member that was found elsewhere, so that the guesses know it. It is tested as ever.
+    pub fn offer(
+        &mut self,
+        alloc: Global,
+        problem: &Problem,
+        member: u32,
+        line: &Line,
+    ) -> Result<(), Memory>
+        ensures same { self.new ≡ self.old }
+    {
+        self.guide.offer(alloc, problem, member, line)
     }
 }
 

@@ -13,24 +13,24 @@ returns-in_err-roster-clause-refused c =
     rw (p.1, p.2) (unclaimed_roster c.args.question.now (view_claimed c.args.claimed.now) c.in_err-roster.field-0.0 c.in_err-roster.field-0.0.code refl
     (λ known. subst (λ (b : List ℕ). HasFault c.args.question.now.problem b c.in_err-roster.field-0.0) c.deref.ensures.value (c.in_err-roster.ensures.fault known)))
 
-pub judge-requires-clause-small_shown : goal.judge-requires-clause-small_shown
-judge-requires-clause-small_shown c = small_parts c.args.question.now.awarded c.requires.limits
+pub judge_noting-requires-clause-small_shown : goal.judge_noting-requires-clause-small_shown
+judge_noting-requires-clause-small_shown c = small_parts c.args.question.now.awarded c.requires.limits
 
-pub judge-requires-clause-countable_shown : goal.judge-requires-clause-countable_shown
-judge-requires-clause-countable_shown c = countable_parts c.args.question.now.awarded c.requires.limits
+pub judge_noting-requires-clause-countable_shown : goal.judge_noting-requires-clause-countable_shown
+judge_noting-requires-clause-countable_shown c = countable_parts c.args.question.now.awarded c.requires.limits
 
-pub returns-in_err-judge-clause-refused : goal.returns-in_err-judge-clause-refused
-returns-in_err-judge-clause-refused c =
-    let p = err_from_is_err_and c.from_residual-in_err-judge.result c.from_residual-in_err-judge.ensures.1 in
+pub returns-in_err-judge_noting-clause-refused : goal.returns-in_err-judge_noting-clause-refused
+returns-in_err-judge_noting-clause-refused c =
+    let p = err_from_is_err_and c.from_residual-in_err-judge_noting.result c.from_residual-in_err-judge_noting.ensures.1 in
     rw (p.1, p.2) (unclaimed_judge c.args.question.now (view_claimed c.args.claimed.now) c.in_ok-roster.roster
     (c.in_ok-roster.ensures.valid, sym (c.in_ok-roster.ensures.read ∙ c.deref.ensures.value)) c.in_ok-reasons.reasons
     (are_reasons _ _ c.in_ok-reasons.ensures.bids c.in_ok-reasons.ensures.places, sym (c.in_ok-reasons.ensures.read ∙ c.deref-2.ensures.value))
-    c.in_err-judge.field-0.0 c.in_err-judge.ensures.first c.in_err-judge.ensures.refused)
+    c.in_err-judge_noting.field-0.0 c.in_err-judge_noting.ensures.first c.in_err-judge_noting.ensures.refused)
 
 pub returns-clause-found : goal.returns-clause-found
 returns-clause-found c = record {
   reasons = c.in_ok-reasons.reasons;
   roster_read = (c.in_ok-roster.ensures.valid, sym (c.in_ok-roster.ensures.read ∙ c.deref.ensures.value));
   reasons_read = (are_reasons _ _ c.in_ok-reasons.ensures.bids c.in_ok-reasons.ensures.places, sym (c.in_ok-reasons.ensures.read ∙ c.deref-2.ensures.value));
-  accepted = c.in_ok-judge.ensures.accepted;
+  accepted = c.in_ok-judge_noting.ensures.accepted;
 }
