@@ -9,6 +9,9 @@ WEEKDAYS = ["MON", "TUE", "WED", "THU", "FRI", "SAT", "SUN"]
 EVENTS = "member,kind,report,parked,release,legs,credit\n"
 # Whether lenses may look at whole lines.
 WHOLE = False
+# Whether members work on most days but those off, on which pairings begin, so that thirty free hours hang on what they fly.
+FREE = False
+OFF = range(4, 26, 6)
 
 
 def duty(pick, report):
@@ -21,7 +24,8 @@ def duty(pick, report):
 def pairing(pick, number):
     need, credit = pick.choice([1] * 9 + [2]), pick.choice([61, 300, 305, 330, 599, 600])
     made = law.Pairing(f"P{number + 1}", need, credit, [], [], [])
-    report = law.MONTH + 1440 * pick.randint(4, 24) + pick.choice([0, 30, 480, 487, 600, 1439])
+    day = pick.choice(OFF) if FREE else pick.randint(4, 24)
+    report = law.MONTH + 1440 * day + pick.choice([0, 30, 480, 487, 600, 1439])
     for _ in range(pick.randint(1, 2)):
         made.duties.append(duty(pick, report))
         made.layovers.append(pick.choice(["", "ORD", "DEN"]))
@@ -40,7 +44,20 @@ def busy_flights(pick, first, count):
     return made
 
 
+def busy_days(pick):
+    """A ground duty on each day but those off, and now and then on one of these, or on none."""
+    made = []
+    for day in range(29):
+        if pick.random() < (0.1 if day in OFF else 0.95):
+            report = law.MONTH + 1440 * day + pick.choice([420, 480])
+            parked = report + pick.choice([300, 600, 601])
+            made.append(law.Event("ground", report, parked, parked, []))
+    return made
+
+
 def fixed_events(pick):
+    if FREE:
+        return busy_days(pick)
     if pick.random() < 0.1:
         return busy_flights(pick, law.MONTH + 480, pick.choice([5, 6, 10, 11]))
     made, report = [], law.MONTH + 1440 * pick.randint(4, 8) + pick.choice([0, 480, 700])
@@ -96,7 +113,7 @@ def wish(pick, pairings):
 
 
 def member(pick, number, pairings):
-    low, high = pick.choice([(0, 5400)] * 8 + [(0, 330), (0, 320), (300, 600), (301, 600), (299, 301), (61, 61)])
+    low, high = pick.choice([(0, 5400)] * (2 if FREE else 8) + [(0, 330), (0, 320), (300, 600), (301, 600), (299, 301), (61, 61)])
     bids = [(pick.choice([1, 2, 5, 10]), wish(pick, pairings)) for _ in range(pick.choice([0, 1, 1, 2, 3]))]
     return law.Member(f"M{number + 1}", low, high, history(pick), fixed_events(pick), bids)
 
@@ -247,7 +264,7 @@ def lens(pick, member):
     if pick.random() < 0.02:
         windows.append(pick.choice([("f672", 485_280), ("d168", 515_520), ("f365", 402), ("f365", 364)]))
     grain = pick.choice([60, 60, 30, 15, 5, 1]) if pick.random() < 0.97 else 7
-    return grain, tracked, pick.random() < 0.4, pick.random() < 0.4, windows, whole
+    return grain, tracked, pick.random() < (0.9 if FREE else 0.4), pick.random() < 0.4, windows, whole
 
 
 def nearly(pick, count):

@@ -1,6 +1,6 @@
-"""A certificate of version 1 written in version 2, by the rules of docs/FORMATS.md.
+"""A certificate of version 1 written in version 2 or 3, by the rules of docs/FORMATS.md.
 
-It may have lenses that look at whole lines: `whole` in place of `lens`, and behind the number of a member.
+It may have lenses that look at whole lines, and is of version 3 then: `whole` in place of `lens`, and behind the number of a member.
 """
 
 
@@ -36,11 +36,12 @@ def proof(lines, count):
 
 
 def text(first):
-    """The text of version 2 of a text of version 1, which reads."""
+    """The text of version 2, or 3, of a text of version 1, which reads but for such lenses."""
     lines = first.split("\n")
-    made = ["pbs-certificate 2"]
+    made = []
     lines.pop(0)
     while lines:
         line = lines.pop(0)
         made += proof(lines, int(line[6:])) if line.startswith("proof ") else [line]
-    return "\n".join(made)
+    version = 3 if any(line.startswith("whole ") for line in made) else 2
+    return "\n".join([f"pbs-certificate {version}", *made])

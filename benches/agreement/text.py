@@ -81,7 +81,7 @@ class Words:
 
 
 class Lenses:
-    """The lenses of a proof of version 2: those that stand in front, and the greatest number that was named."""
+    """The lenses of a proof of version 2 or 3: those that stand in front, and the greatest number that was named."""
 
     def __init__(self, total):
         self.total, self.named, self.lines = total, 0, set()
@@ -108,6 +108,8 @@ class Lenses:
 class Reader:
     def __init__(self, text):
         self.rest, self.line, self.version = text, 0, None
+        # Whether a lens that looks at whole lines is still owed, and how many parts are to come that may have it.
+        self.owed, self.ahead = False, 0
 
     def next(self, *firsts):
         """The next line's first word, which is one of these, and the words behind it."""
@@ -122,9 +124,14 @@ class Reader:
 
     def heading(self):
         first, words = self.next()
-        if [first, *words.words] not in (["pbs-certificate", "1"], ["pbs-certificate", "2"]):
+        if [first, *words.words] not in (["pbs-certificate", number] for number in "123"):
             raise Fault(VERSION)
         self.version = int(words.words[0])
+        self.owed = self.version == 3
+
+    def must(self):
+        """Whether what is read now must have the lens that is owed."""
+        return self.owed and self.ahead == 0
 
     def bare(self, words):
         if words.words:
@@ -168,14 +175,23 @@ class Reader:
     def numbered_proof(self):
         _, words = self.next("proof")
         count, lenses = words.number(40_001), Lenses(words.number(8_000_200))
+        words.must(lenses.total > 0 or not self.must())
         lenses.end(words, count)
-        for _ in range(lenses.total):
-            lenses.add(*self.next("lens", "whole"))
+        for left in reversed(range(lenses.total)):
+            first, words = self.next(*self.firsts(left))
+            lenses.add(first, words)
+            self.owed = self.owed and first == "lens"
         for number in range(count):
             self.numbered_item(lenses, count - 1 - number)
 
-    def proof(self):
+    def firsts(self, left):
+        """With which words the line of a lens may begin, behind which the proof has so many more."""
         if self.version == 2:
+            return ["lens"]
+        return ["whole"] if self.must() and left == 0 else ["lens", "whole"]
+
+    def proof(self):
+        if self.version != 1:
             return self.numbered_proof()
         _, words = self.next("proof")
         count = words.number(40_001)
@@ -186,6 +202,7 @@ class Reader:
     def shown(self):
         _, words = self.next("shown")
         proofs, rows = int(words.take("[01]")), words.number(200)
+        words.must(proofs == 1 or not self.must())
         words.end()
         for _ in range(proofs):
             self.proof()
@@ -196,11 +213,12 @@ class Reader:
 
     def award(self, words):
         places, denials = words.number(200), words.number(12_800)
+        self.ahead = places + denials
+        words.must(not self.must())
         words.end()
-        for _ in range(places):
-            self.proof()
-        for _ in range(denials):
-            self.shown()
+        for one in [self.proof] * places + [self.shown] * denials:
+            self.ahead -= 1
+            one()
 
     def whole(self):
         self.heading()

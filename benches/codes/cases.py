@@ -210,7 +210,7 @@ BIDS = [
 ]
 
 CERTIFICATES = [
-    check("no certificate 1 1", ONE, ("certificate.txt", "pbs-certificate 1", "pbs-certificate 3")),
+    check("no certificate 1 1", ONE, ("certificate.txt", "pbs-certificate 1", "pbs-certificate 4")),
     check("no certificate 4 2", ONE, ("certificate.txt", "split 1 1", "divide 1 1")),
     check("no certificate 4 3", ONE, ("certificate.txt", "split 1 1", "split 1")),
     check("no certificate 7 4", ONE, ("certificate.txt", "count 1\nend\n", "count 1\n")),

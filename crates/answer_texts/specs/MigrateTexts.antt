@@ -23,7 +23,7 @@ migrate_status (Err stop.NoMemory) = status.NoMemory
 abbrev pub migrated_line : ℕ → List ℕ
 migrated_line version = line_of (codes "migrated") (version ∷ [])
 
--- why the certificate is not written anew; where its text of version 2 is too long, line 0 stands for the whole of it
+-- why the certificate is not written anew; where the text to be written is too long, line 0 stands for the whole of it
 abbrev pub unmigrated_text : Unmigrated → List ℕ
 unmigrated_text (unmigrated.Certificate fault) =
     line_of (codes "no certificate") (fault.line ∷ cert_code fault.code ∷ [])

@@ -1,15 +1,18 @@
 //! Single steps of an award.
-ghost use Rattle.std.specs.Prelude.{◌≡◌, ◌↔◌, ◌+◌, ◌^◌, ◌<◌, ◌≤◌, [], ◌∷◌, ◌++◌, length, take, sum_by, OnOk, IfOk};
+ghost use Rattle.std.specs.Prelude.{◌≡◌, ◌↔◌, ◌+◌, ◌^◌, ◌<◌, ◌≤◌, Some, [], ◌∷◌, ◌++◌, length, take, sum_by, OnOk, IfOk};
+ghost use Rattle.std.specs.Option.{ForSome};
 ghost use Rattle.roster_model.specs.declared.problem.Problem.{Problem};
 ghost use Rattle.roster_model.specs.Awards.{no_goal, floor_goal};
 ghost use Rattle.roster_model.specs.Lawful.{bids_weight};
 ghost use Rattle.roster_model.specs.Rosters.{IsComplete, scores_of, line_at};
 ghost use Rattle.roster_model.specs.Scores.{score_of};
 ghost use Rattle.branch_log.specs.Book.{IsOrderly};
+ghost use Rattle.branch_log.specs.Honest.{IsHonest};
+ghost use Rattle.branch_log.specs.declared.closer.Verdict.{Verdict as Said};
 ghost use Rattle.completion_search.specs.Found.{IsFinding, AddsSearch, AddsFewEntries, HasFewSplits};
 
 use bid_score::score;
-use branch_log::{Closer, Ledger};
+use branch_log::{Closer, Ledger, Proposal, Verdict};
 use completion_search::{Finding, search};
 use duty_calendar::{List, Memory};
 use roster_model::{Bid, Goal, Problem, Proof, Roster};
@@ -34,10 +37,11 @@ pub(crate) fn ask_nothing<C: Closer>(
     ensures fits { (other : Problem) → C.fits closer.new other ↔ C.fits closer.old other }
 {
     let goal = Goal::new(alloc);
-    search(alloc, problem, closer, &goal, ledger)
+    search(alloc, problem, closer, &goal, None, ledger)
 }
 
-/// Searches for a complete roster that reaches the scores before a place, and the floor at it.
+/// Searches for a complete roster that reaches the scores before a place, and the floor at it. A verdict on the empty node
+/// may be known.
 pub(crate) fn ask<C: Closer>(
     alloc: Global,
     problem: &Problem,
@@ -45,12 +49,15 @@ pub(crate) fn ask<C: Closer>(
     ledger: &mut Ledger,
     before: &[u32],
     floor: u32,
+    first: Option<Verdict>,
 ) -> Result<Finding, Memory>
     requires fits { C.fits closer.old problem.now }
     requires rounds { C.rounds closer.old ≡ ledger.old.rounds }
     requires orderly { IsOrderly problem.now ledger.old }
     requires searches { length ledger.old.goals ≤ 4000000000 }
     requires place { length before.now < length problem.now.base.members }
+    requires first { ForSome first (IsHonest problem.now ledger.old.rounds
+        (floor_goal before.now floor) []) }
     ensures found { IfOk result (IsFinding problem.now (floor_goal before.now floor) ledger.new) }
     ensures adds { AddsSearch problem.now (floor_goal before.now floor) ledger.old ledger.new }
     ensures few { AddsFewEntries problem.now ledger.old ledger.new }
@@ -59,7 +66,7 @@ pub(crate) fn ask<C: Closer>(
     ensures fits { (other : Problem) → C.fits closer.new other ↔ C.fits closer.old other }
 {
     let goal = Goal::reaching(alloc, before, floor)?;
-    search(alloc, problem, closer, &goal, ledger)
+    search(alloc, problem, closer, &goal, first, ledger)
 }
 
 /// The floor nearest to this one between a score that is reached and a floor that is not.
@@ -71,25 +78,46 @@ fn between(floor: u32, score: u32, refuted: u32) -> u32
     floor.max(score + 1).min(refuted - 1)
 }
 
-/// The floor to be tried next, between a score that is reached and a floor that is not.
-pub(crate) fn next_floor<C: Closer>(
+/// The proposal, with its floor brought between a score that is reached and a floor that is not. A verdict on another floor
+/// is dropped.
+fn within(proposal: Proposal, score: u32, refuted: u32) -> Proposal
+    requires apart { score + 1 < refuted }
+    ensures above { score < result.floor }
+    ensures below { result.floor < refuted }
+    ensures same { (said : Said) → result.verdict ≡ Some said
+        → (proposal.verdict ≡ Some said) × (result.floor ≡ proposal.floor) }
+{
+    let floor = between(proposal.floor, score, refuted);
+    if floor == proposal.floor {
+        return proposal;
+    }
+    Proposal {
+        floor,
+        verdict: None,
+    }
+}
+
+/// The floor to be tried next, between a score that is reached and a floor that is not, with a verdict where one is known.
+pub(crate) fn propose<C: Closer>(
     alloc: Global,
     problem: &Problem,
     closer: &mut C,
     before: &[u32],
     score: u32,
     refuted: u32,
-) -> Result<u32, Memory>
+) -> Result<Proposal, Memory>
     requires fits { C.fits closer.old problem.now }
     requires place { length before.now < length problem.now.base.members }
     requires apart { score + 1 < refuted }
-    ensures above { IfOk result (λ floor. score < floor) }
-    ensures below { IfOk result (λ floor. floor < refuted) }
+    ensures above { IfOk result (λ p. score < p.floor) }
+    ensures below { IfOk result (λ p. p.floor < refuted) }
+    ensures honest { IfOk result (λ p. ForSome p.verdict (IsHonest problem.now
+        (C.rounds closer.old) (floor_goal before.now p.floor) [])) }
     ensures rounds { C.rounds closer.new ≡ C.rounds closer.old }
     ensures fits { (other : Problem) → C.fits closer.new other ↔ C.fits closer.old other }
 {
-    let guess = closer.next_floor(alloc, problem, before, score, refuted)?;
-    Ok(between(guess, score, refuted))
+    let proposal = closer.propose(alloc, problem, before, score, refuted)?;
+    Ok(within(proposal, score, refuted))
 }
 
 fn total(bids: &[Bid]) -> u32

@@ -6,7 +6,7 @@ ghost use Rattle.branch_log.specs.Book.{IsOrderly};
 ghost use Rattle.completion_search.specs.Added.{AddsSearches, TakesSearches};
 ghost use Rattle.award_loop.specs.Raised.{HasScores, IsRaised, IsGoalBehind};
 
-use crate::ask::{ask, bids_weight, next_floor, score_in};
+use crate::ask::{ask, bids_weight, propose, score_in};
 use branch_log::{Closer, Ledger};
 use completion_search::Finding;
 use duty_calendar::{List, Memory};
@@ -51,8 +51,17 @@ pub(crate) fn raise<C: Closer>(
     let mut refuted = bids_weight(problem, place) + 2;
     let mut proof: Proof = List::new(alloc);
     while score + 1 < refuted {
-        let floor = next_floor(alloc, problem, closer, before, score, refuted)?;
-        match ask(alloc, problem, closer, ledger, before, floor)? {
+        let proposal = propose(alloc, problem, closer, before, score, refuted)?;
+        let floor = proposal.floor;
+        match ask(
+            alloc,
+            problem,
+            closer,
+            ledger,
+            before,
+            floor,
+            proposal.verdict,
+        )? {
             Finding::Found(better) => {
                 score = score_in(problem, &better, place);
                 *best = better;

@@ -2,7 +2,9 @@
 #![tactic(auto)]
 
 mod closer;
+mod fresh;
 mod ledger;
 
-pub use closer::{Closer, Verdict};
+pub use closer::{Closer, Proposal, Verdict};
+pub use fresh::FreshCloser;
 pub use ledger::Ledger;

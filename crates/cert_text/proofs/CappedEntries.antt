@@ -6,8 +6,8 @@ use Rattle.std.proofs.lemmas.Bool.Decides.{nat_tests}
 use Rattle.cert_text.specs.declared.limits.TheConstants.{MOST_ENTRIES, MOST_ITEMS, MOST_LENS_LINES}
 use Rattle.cert_text.specs.declared.flaw.Flaw.{Flaw}
 use Rattle.cert_text.specs.declared.flaw.Flaw.TheVariants.{Number, Limit}
-use Rattle.cert_text.specs.Fields.{◌>>=◌, kept, pair, mapped, first_and, joined, first, alone, number, plain_number, up_to, is_number, size, capped, capped_entry, front_of, behind_of, some_weight, is_place, place_after, entry_at, entries}
-use Rattle.cert_text.specs.Forms.{filled, sparse, is_enough, counts}
+use Rattle.cert_text.specs.Fields.{kept, pair, mapped, first_and, joined, first, alone, number, plain_number, up_to, is_number, size, capped, capped_entry, front_of, behind_of, some_weight, is_place, place_after, entry_at, entries}
+use Rattle.cert_text.specs.Forms.{filled, sparse, is_enough, some_where, counts}
 use Rattle.cert_text.proofs.Each.{gathered, gathered-join, gathered-none}
 use Rattle.cert_text.proofs.Numerals.{both, number_takes}
 use Rattle.cert_text.proofs.Values.{kept_ok, then_said, mapped_ok, pair_ok, ok_is}
@@ -182,18 +182,20 @@ sparse_good words w ws given r most xs ys split e f g h =
 
 -- ---- the line of a proof
 
-kept_numbers : (k l : List ℕ) (b : Bool) → kept (is_number k && (is_number l && b)) (pair (number MOST_ITEMS k) (number MOST_LENS_LINES l)) ≡ kept b (pair (number MOST_ITEMS k) (number MOST_LENS_LINES l))
+kept_numbers : (must : Bool) (k l : List ℕ) (b : Bool)
+    → kept (is_number k && (is_number l && b)) (pair (number MOST_ITEMS k) (some_where must (number MOST_LENS_LINES l))) ≡ kept b (pair (number MOST_ITEMS k) (some_where must (number MOST_LENS_LINES l)))
 unfolding is_number number
-kept_numbers k l b = by_case (plain_number k) (plain_number l) b
+kept_numbers must k l b = by_case (plain_number k) (plain_number l) b
   where
-    by_case : (o p : Option ℕ) (b : Bool) → kept (is_some o && (is_some p && b)) (pair (up_to MOST_ITEMS o) (up_to MOST_LENS_LINES p)) ≡ kept b (pair (up_to MOST_ITEMS o) (up_to MOST_LENS_LINES p))
+    by_case : (o p : Option ℕ) (b : Bool)
+        → kept (is_some o && (is_some p && b)) (pair (up_to MOST_ITEMS o) (some_where must (up_to MOST_LENS_LINES p))) ≡ kept b (pair (up_to MOST_ITEMS o) (some_where must (up_to MOST_LENS_LINES p)))
     by_case (Some n) (Some m) b = refl
-    by_case None p true = sym (pair_number (up_to MOST_LENS_LINES p))
+    by_case None p true = sym (pair_number (some_where must (up_to MOST_LENS_LINES p)))
     by_case None p false = refl
     by_case (Some n) None false = refl
     by_case (Some n) None true = sym (number_pair (up_to MOST_ITEMS (Some n)))
 
-pub counts_is : (words ws vs : List (List ℕ)) (k l : List ℕ) (r : Result (ℕ × ℕ) Flaw) → first words ≡ Ok (k, ws) → first ws ≡ Ok (l, vs)
-    → r ≡ alone vs (kept (is_number k && (is_number l && is_enough (size l) 0 (size k))) (pair (number MOST_ITEMS k) (number MOST_LENS_LINES l))) → r ≡ counts words
+pub counts_is : (must : Bool) (words ws vs : List (List ℕ)) (k l : List ℕ) (r : Result (ℕ × ℕ) Flaw) → first words ≡ Ok (k, ws) → first ws ≡ Ok (l, vs)
+    → r ≡ alone vs (kept (is_number k && (is_number l && is_enough (size l) 0 (size k))) (pair (number MOST_ITEMS k) (some_where must (number MOST_LENS_LINES l)))) → r ≡ counts must words
 unfolding counts
-counts_is words ws vs k l r split again e = e ∙ ap (alone vs) (kept_numbers k l (is_enough (size l) 0 (size k))) ∙ sym (rw (split, again) refl)
+counts_is must words ws vs k l r split again e = e ∙ ap (alone vs) (kept_numbers must k l (is_enough (size l) 0 (size k))) ∙ sym (rw (split, again) refl)

@@ -11,3 +11,4 @@ pub mod TableRows
 pub mod Raising
 pub mod SetWeights
 pub mod LastingBits
+pub mod FreeChains

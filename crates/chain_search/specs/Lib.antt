@@ -19,3 +19,9 @@ pub mod PartLaws
 pub mod Lastings
 pub mod Bounds
 pub mod Orders
+pub mod Clocks
+pub mod ClockLaws
+pub mod Hours
+pub mod HourLaws
+pub mod Pauseds
+pub mod FreeHours

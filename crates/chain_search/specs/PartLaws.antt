@@ -5,11 +5,12 @@ use Rattle.label_lattice.specs.declared.pairs.Pair.{Pair}
 use Rattle.label_lattice.specs.Pair.{both_of, pair_done, pair_extend}
 use Rattle.chain_search.specs.Views.{CoarseLaws}
 
-record Parts {A B : Type 0} (o : Option A) (p : Option B) (c : Pair A B) : Type 0 where
-  first : o ≡ Some c.first
-  second : p ≡ Some c.second
+-- what a step of a pair makes of both
+pub record Parts {A B : Type 0} (o : Option A) (p : Option B) (c : Pair A B) : Type 0 where
+  pub first : o ≡ Some c.first
+  pub second : p ≡ Some c.second
 
-parts_of : {A B : Type 0} (o : Option A) (p : Option B) (c : Pair A B) → both_of o p ≡ Some c → Parts o p c
+pub parts_of : {A B : Type 0} (o : Option A) (p : Option B) (c : Pair A B) → both_of o p ≡ Some c → Parts o p c
 parts_of (Some a) (Some b) c e = record { first = cc; second = cc }
 parts_of None p c e = cc
 parts_of (Some a) None c e = cc

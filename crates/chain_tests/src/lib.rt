@@ -4,6 +4,8 @@
 #[cfg(test)]
 mod climbs;
 #[cfg(test)]
+mod free_hours;
+#[cfg(test)]
 mod labels;
 #[cfg(test)]
 mod resources;

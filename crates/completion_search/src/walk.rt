@@ -1,11 +1,13 @@
 //! The walk over the nodes of a search, depth first.
-ghost use Rattle.std.specs.Prelude.{◌≡◌, ◌≢◌, ◌↔◌, ◌+◌, ◌<◌, ◌≤◌, true, false, Some, [], ◌∷◌, ◌++◌, length, slice_get, IfOk, OnOk, OnErr};
+ghost use Rattle.std.specs.Prelude.{◌≡◌, ◌≢◌, ◌↔◌, ◌+◌, ◌<◌, ◌≤◌, true, false, None, Some, [], ◌∷◌, ◌++◌, length, slice_get, IfOk, OnOk, OnErr};
+ghost use Rattle.std.specs.Option.{ForSome};
 ghost use Rattle.roster_model.specs.declared.problem.Problem.{Problem};
 ghost use Rattle.roster_model.specs.Decided.{decided, is_decided};
-ghost use Rattle.roster_model.specs.Goals.{IsGoal};
+ghost use Rattle.roster_model.specs.Goals.{IsGoal, IsNode};
 ghost use Rattle.roster_model.specs.OpenNodes.{IsOpenNode};
 ghost use Rattle.roster_model.specs.Ledgers.{Each};
 ghost use Rattle.branch_log.specs.Book.{IsOrderly};
+ghost use Rattle.branch_log.specs.Honest.{IsHonest};
 ghost use Rattle.completion_search.specs.Found.{IsFinding, AddsSearch, AddsFewEntries, FitsSearch, HasFewSplits, IsNotSpent};
 ghost use Rattle.completion_search.specs.Path.{IsAt, IsAboveFlown, HasGrown};
 
@@ -26,12 +28,14 @@ pub enum Finding {
 }
 
 /// Looks for a complete roster that meets the goal, or for a proof that there is none, and counts each node that it
-/// branches on. Where the ledger is full at the start, no search is numbered.
+/// branches on. Where the ledger is full at the start, no search is numbered. The closer is not asked of the empty node
+/// where a first verdict is handed in.
 pub fn search<C: Closer>(
     alloc: Global,
     problem: &Problem,
     closer: &mut C,
     goal: &Goal,
+    first: Option<Verdict>,
     ledger: &mut Ledger,
 ) -> Result<Finding, Memory>
     requires fits { C.fits closer.old problem.now }
@@ -39,6 +43,7 @@ pub fn search<C: Closer>(
     requires goal { IsGoal problem.now goal.now }
     requires orderly { IsOrderly problem.now ledger.old }
     requires searches { length ledger.old.goals ≤ 4000000000 }
+    requires first { ForSome first (IsHonest problem.now ledger.old.rounds goal.now []) }
     ensures found { IfOk result (IsFinding problem.now goal.now ledger.new) }
     ensures adds { AddsSearch problem.now goal.now ledger.old ledger.new }
     ensures few { AddsFewEntries problem.now ledger.old ledger.new }
@@ -51,7 +56,7 @@ pub fn search<C: Closer>(
         return Ok(Finding::Spent);
     }
     let number = start(alloc, goal, ledger)?;
-    descend(alloc, problem, closer, goal, number, ledger)
+    descend(alloc, problem, closer, goal, number, first, ledger)
 }
 
 /// Numbers a search for the goal.
@@ -69,6 +74,31 @@ fn start(alloc: Global, goal: &Goal, ledger: &mut Ledger) -> Result<u32, Memory>
     }
 }
 
+/// What there is to say of a node: what is known of it, which is taken, or what the closer says.
+fn close<C: Closer>(
+    alloc: Global,
+    problem: &Problem,
+    closer: &mut C,
+    goal: &Goal,
+    node: &Node,
+    first: &mut Option<Verdict>,
+) -> Result<Verdict, Memory>
+    requires fits { C.fits closer.old problem.now }
+    requires goal { IsGoal problem.now goal.now }
+    requires node { IsNode problem.now node.now }
+    requires first { ForSome first.old (IsHonest problem.now (C.rounds closer.old) goal.now
+        node.now) }
+    ensures rounds { C.rounds closer.new ≡ C.rounds closer.old }
+    ensures fits { (other : Problem) → C.fits closer.new other ↔ C.fits closer.old other }
+    ensures honest { IfOk result (IsHonest problem.now (C.rounds closer.old) goal.now node.now) }
+    ensures taken { first.new ≡ None }
+{
+    match first.take() {
+        Some(verdict) => Ok(verdict),
+        None => closer.close(alloc, problem, goal, node),
+    }
+}
+
 /// Closes the empty node, depth first.
 fn descend<C: Closer>(
     alloc: Global,
@@ -76,6 +106,7 @@ fn descend<C: Closer>(
     closer: &mut C,
     goal: &Goal,
     number: u32,
+    mut first: Option<Verdict>,
     ledger: &mut Ledger,
 ) -> Result<Finding, Memory>
     requires fits { C.fits closer.old problem.now }
@@ -85,6 +116,7 @@ fn descend<C: Closer>(
     requires new { Each (λ e. e.search ≢ number) ledger.old.entries }
     requires room { length ledger.old.entries < ledger.old.cap }
     requires orderly { IsOrderly problem.now ledger.old }
+    requires first { ForSome first (IsHonest problem.now ledger.old.rounds goal.now []) }
     ensures found { IfOk result (IsFinding problem.now goal.now ledger.new) }
     ensures grown { HasGrown problem.now number ledger.old ledger.new }
     ensures short { IfOk result (HasFewSplits ledger.old ledger.new) }
@@ -96,7 +128,7 @@ fn descend<C: Closer>(
     let mut items: Proof = List::new(alloc);
     let mut is_open = true;
     while is_open {
-        match closer.close(alloc, problem, goal, &node)? {
+        match close(alloc, problem, closer, goal, &node, &mut first)? {
             Verdict::Whole(roster) => return Ok(Finding::Found(roster)),
             Verdict::Closed(leaf) => {
                 add_item(&mut items, leaf)?;

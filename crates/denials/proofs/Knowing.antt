@@ -10,7 +10,7 @@ use Rattle.roster_model.specs.Scores.{score_of}
 use Rattle.roster_model.specs.Rosters.{line_at}
 use Rattle.roster_model.specs.Denials.{ReachesBefore}
 use Rattle.denials.specs.declared.known.Known.{Known}
-use Rattle.denials.specs.Known.{AreFound, IsFound, IsKnown, IsReached}
+use Rattle.denials.specs.Known.{AreFound, IsFound, IsKnown, IsReached, MissesAt}
 use Rattle.denials.specs.Settled.{IsBracketed}
 use Rattle.denials.proofs.Narrowing.{bracket-first}
 
@@ -39,6 +39,18 @@ reached_more problem scores roster member line score read e s r le before m lt =
 pub reached_before : (problem : Problem) (scores : List ℕ) (roster : List (List ℕ)) (member place : ℕ) → place ≤ member + 1
     → AreReachedBelow problem scores roster member → ReachesBefore problem scores place roster
 reached_before problem scores roster member place le reached m known lt = reached m (omega (arith, lt, le))
+
+pub missed_here : (problem : Problem) (scores : List ℕ) (roster : List (List ℕ)) (member : ℕ) (line : List ℕ) (score read : ℕ)
+    → line ≡ line_at roster member → score ≡ score_of problem member line → read ≡ slice_index scores member → score < read
+    → MissesAt problem scores (member + 1) roster
+missed_here problem scores roster member line score read e s r lt m known is =
+    let same : m ≡ member = omega (arith, is) in
+    subst (λ (k : ℕ). score_of problem k (line_at roster k) < slice_index scores k) (sym same)
+    (omega (arith, s ∙ ap (λ (xs : List ℕ). score_of problem member xs) e, r, lt))
+
+pub none_missed : (problem : Problem) (scores : List ℕ) (roster : List (List ℕ)) (place : ℕ) → length problem.base.members < place
+    → MissesAt problem scores place roster
+none_missed problem scores roster place lt m known is = omega (arith, lt, known, is)
 
 -- the roster with this number
 pub known_at : (problem : Problem) (scores : List ℕ) (bid : BidRef) (known : List Known) (at place : ℕ) (one : Known)

@@ -3,7 +3,7 @@ ghost use Rattle.std.specs.Prelude.{◌≡◌, ◌++◌, ◌∷◌, [], ◌+◌,
 ghost use Rattle.roster_model.specs.Goals.{IsBidOf};
 ghost use Rattle.roster_model.specs.Rosters.{IsComplete};
 ghost use Rattle.roster_model.specs.Denials.{ReachesBefore, is_granted_by};
-ghost use Rattle.denials.specs.Known.{AreFound, IsFound, IsKnown, IsReached};
+ghost use Rattle.denials.specs.Known.{AreFound, IsFound, IsKnown, IsReached, MissesAt};
 ghost use Rattle.denials.specs.Settled.{IsBracketed};
 
 use bid_score::{granted, score};
@@ -41,6 +41,7 @@ pub(crate) fn first_missed(problem: &Problem, scores: &[u32], roster: &Roster) -
     requires complete { IsComplete problem.now roster.now }
     ensures within { result ≤ length problem.now.base.members + 1 }
     ensures reaches { ReachesBefore problem.now scores.now result roster.now }
+    ensures missed { MissesAt problem.now scores.now result roster.now }
 {
     for (member, line) in roster.as_slice().iter().enumerate() {
         if score(problem, member as u32, line) < scores[member] {

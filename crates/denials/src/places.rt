@@ -52,7 +52,7 @@ fn ask<C: Closer>(
     ensures fits { (other : Problem) → C.fits closer.new other ↔ C.fits closer.old other }
 {
     let goal = Goal::granting(alloc, scores, place as usize, bid)?;
-    search(alloc, problem, closer, &goal, ledger)
+    search(alloc, problem, closer, &goal, None, ledger)
 }
 
 /// The first place that is open after a roster was found for one: behind that place, or behind all that the roster

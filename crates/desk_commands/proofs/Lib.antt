@@ -6,3 +6,4 @@ pub mod CalendarSizes
 pub mod CalendarDated
 pub mod CalendarHeld
 pub mod CalendarLaws
+pub mod Respelt

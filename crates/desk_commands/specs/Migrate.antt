@@ -1,9 +1,8 @@
--- What `migrate` makes of the certificate in a folder: its text in version 2.
+-- What `migrate` makes of the certificate in a folder: its text in version 2, or 3 where a lens looks at whole lines.
 use Rattle.std.specs.Prelude.{◌≡◌, ◌≤◌, ◌<◌, ℕ, List, [], ◌∷◌, length, Some, Result, Ok, Err}
 use Rattle.cert_text.specs.Reading.{certificate_in, version_of, version_number}
-use Rattle.cert_text.specs.Spelling.{certificate_text}
+use Rattle.cert_text.specs.Spelling.{certificate_text, written_text}
 use Rattle.cert_text.specs.declared.version.Version.{Version}
-use Rattle.cert_text.specs.declared.version.Version.TheVariants.{Two}
 use Rattle.month_files.specs.FileNames.{limit_of}
 use Rattle.month_files.specs.Handing.{FromReads}
 use Rattle.month_files.specs.Reading.{UnreadIs, text_in}
@@ -21,13 +20,13 @@ use Rattle.desk_commands.specs.declared.migrate_stop.MigrateStop.TheVariants as 
 use Rattle.desk_commands.specs.declared.migrate_stop.Unmigrated.{Unmigrated}
 use Rattle.desk_commands.specs.declared.migrate_stop.Unmigrated.TheVariants as unmigrated
 
--- a certificate in its file, in version 2
+-- a certificate in its file, in the version in which it is written
 abbrev pub new_draft : Certificate → Draft
-new_draft certificate = record { file = CertificateFile; bytes = certificate_text Two certificate }
+new_draft certificate = record { file = CertificateFile; bytes = written_text certificate }
 
 -- ---- what a text is
 
--- the text of a certificate in the version that its first line names, which version 2 spells within the limit of the file
+-- the text of a certificate in the version that its first line names, which is written within the limit of the file
 pub record IsRespelt (m : Migrated) (text : List ℕ) : Type 0 where
   pub certificate : Certificate
   pub version : Version
@@ -36,13 +35,13 @@ pub record IsRespelt (m : Migrated) (text : List ℕ) : Type 0 where
   pub whole : text ≡ certificate_text version certificate
   pub read : certificate_in text ≡ Ok certificate
   pub drafts_are : m.drafts ≡ new_draft certificate ∷ []
-  pub fits : length (certificate_text Two certificate) ≤ limit_of CertificateFile
+  pub fits : length (written_text certificate) ≤ limit_of CertificateFile
 
--- the text of a certificate that version 2 spells beyond it
+-- the text of a certificate that is written beyond it
 pub record IsTooLong (text : List ℕ) : Type 0 where
   pub certificate : Certificate
   pub read : certificate_in text ≡ Ok certificate
-  pub long : limit_of CertificateFile < length (certificate_text Two certificate)
+  pub long : limit_of CertificateFile < length (written_text certificate)
 
 abbrev pub IsUnmigrated : Unmigrated → List ℕ → Type 0
 IsUnmigrated (unmigrated.Certificate fault) text = certificate_in text ≡ Err fault

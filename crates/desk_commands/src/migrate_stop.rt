@@ -7,7 +7,7 @@ use cert_text::{CertCode, CertFault};
 use duty_calendar::{List, Memory};
 use month_files::{Draft, Unread, Unwritten};
 
-/// The version that the certificate had, and the file that holds it in version 2.
+/// The version that the certificate had, and the file that holds it as it is written.
 #[derive(Drop, Debug)]
 pub struct Migrated {
     pub version: u32,
@@ -19,11 +19,11 @@ pub struct Migrated {
 pub enum Unmigrated {
     /// The certificate is no certificate text, from this line on.
     Certificate(CertFault),
-    /// In version 2 it is longer than its file may be.
+    /// As it is written it is longer than its file may be.
     TooLong,
 }
 
-/// Why `migrate` did not write the certificate in version 2.
+/// Why `migrate` did not write the certificate.
 #[derive(Drop, Debug)]
 pub enum MigrateStop {
     /// The file was not read.

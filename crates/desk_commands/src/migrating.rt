@@ -33,7 +33,7 @@ fn certificate_drafts(alloc: Global, bytes: List<u8>) -> Result<List<Draft>, Mem
     Ok(drafts)
 }
 
-/// What comes of the text of a certificate: its text in version 2.
+/// What comes of the text of a certificate: its text in version 2, or 3 where a lens looks at whole lines.
 fn respell(alloc: Global, text: &[u8]) -> Result<Migrated, MigrateStop>
     requires short { length text.now ≤ longest }
     ensures respelt { IsRespelling text.now result }
@@ -68,7 +68,7 @@ fn write_migrated<S: Shelf>(
     }
 }
 
-/// Writes the certificate in the folder in version 2.
+/// Writes the certificate in the folder in version 2, or 3 where a lens looks at whole lines.
 pub fn migrate<S: Shelf>(alloc: Global, shelf: &mut S) -> Result<Migrated, MigrateStop>
     ensures cause { MigrateCause (S.tally shelf.old) (S.tally shelf.new) result }
     ensures told { ForSome (S.holds shelf.old) (λ files. IsMigration files result) }

@@ -17,6 +17,10 @@ const ONE: &str =
 const TWO: &str =
     "pbs-certificate 2\naward 2 1\nproof 1 1\nlens 60 0000000000000000 0 0\nnoline 1 1\nproof 1 1\nlens 60 0000000000000001 0 0\nweights 1 1:-1\nby 1 1\nshown 1 2\nproof 1 1\nlens 60 0000000000000001 0 0\nweights 1 1:-1\nby 1 1\nline\nline 1\nend\n";
 
+/// A certificate with a lens that looks at whole lines.
+const THREE: &str =
+    "pbs-certificate 3\nnone\nproof 2 2\nlens 60 0000000000000000 0 0\nwhole 60 0000000000000001 0 0\nnoline 1 1\nnoline 2 2\nend\n";
+
 /// A shelf with a certificate and a roster.
 fn shelf_with(rt: &impl Abort, alloc: Global, certificate: &str) -> MemoryShelf {
     let mut shelf = MemoryShelf::new(alloc, List::new(alloc));
@@ -37,18 +41,19 @@ fn assert_files(rt: &impl Abort, shelf: &MemoryShelf, certificate: &str, roster:
     assert_eq!(rt; shelf.file("roster.csv"), Some(roster.as_bytes()));
 }
 
-/// Says which version a certificate had, and that it stands in the folder in version 2 afterwards.
-fn assert_migrated(rt: &impl Abort, alloc: Global, text: &str, version: u32) {
+/// Says which version a certificate had, and what its text in the folder is afterwards.
+fn assert_migrated(rt: &impl Abort, alloc: Global, text: &str, version: u32, written: &str) {
     let mut shelf = shelf_with(rt, alloc, text);
     let migrated = migrate(alloc, &mut shelf).ok().expect(rt, "a certificate");
     assert_eq!(rt; migrated.version, version);
-    assert_files(rt, &shelf, TWO, "as it was");
+    assert_files(rt, &shelf, written, "as it was");
 }
 
 #[test]
 fn certificates_are_migrated(rt: HostRuntime) {
-    assert_migrated(&rt, rt.alloc(), ONE, 1);
-    assert_migrated(&rt, rt.alloc(), TWO, 2);
+    assert_migrated(&rt, rt.alloc(), ONE, 1, TWO);
+    assert_migrated(&rt, rt.alloc(), TWO, 2, TWO);
+    assert_migrated(&rt, rt.alloc(), THREE, 3, THREE);
 }
 
 /// What the command says against migrating.
@@ -74,7 +79,21 @@ fn assert_no(rt: &impl Abort, alloc: Global, text: &str, line: u32, code: CertCo
 fn other_texts_stay_as_they_are(rt: HostRuntime) {
     let alloc = rt.alloc();
     assert_no(&rt, alloc, "", 1, CertCode::Short);
-    assert_no(&rt, alloc, "pbs-certificate 3\n", 1, CertCode::Version);
+    assert_no(&rt, alloc, "pbs-certificate 4\n", 1, CertCode::Version);
+    assert_no(
+        &rt,
+        alloc,
+        "pbs-certificate 2\nnone\nproof 1 1\nwhole 60 0000000000000001 0 0\nnoline 1 1\nend\n",
+        4,
+        CertCode::Word,
+    );
+    assert_no(
+        &rt,
+        alloc,
+        "pbs-certificate 3\nnone\nproof 0 0\nend\n",
+        3,
+        CertCode::Number,
+    );
     assert_no(
         &rt,
         alloc,

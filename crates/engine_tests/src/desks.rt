@@ -27,10 +27,60 @@ const NO_WEIGHT: &str =
 const NO_LENS: &str =
     "pbs-certificate 2\naward 2 1\nproof 1 1\nlens 60 0000000000000000 0 0\nnoline 1 1\nproof 1 1\nlens 60 0000000000000001 0 0\nweights 1 1:-1\nby 1 2\nshown 1 2\nproof 1 1\nlens 60 0000000000000001 0 0\nweights 1 1:-1\nby 1 1\nline\nline 1\nend\n";
 
-const NO_VERSION: &str = "pbs-certificate 3\naward 2 0\nproof 0\nproof 0\nend\n";
+const NO_VERSION: &str = "pbs-certificate 4\naward 2 0\nproof 0\nproof 0\nend\n";
 
-/// Certificates written anew, and checked in version 2.
-pub(crate) const RESPELT: [Asked; 10] = [
+/// The certificate with a lens that looks at whole lines, the same in version 2, and one without such a lens in version 3.
+const SHOWN_THREE: &str =
+    "pbs-certificate 3\naward 2 1\nproof 1 1\nwhole 60 0000000000000000 0 0\nnoline 1 1\nproof 1 1\nlens 60 0000000000000001 0 0\nweights 1 1:-1\nby 1 1\nshown 1 2\nproof 1 1\nlens 60 0000000000000001 0 0\nweights 1 1:-1\nby 1 1\nline\nline 1\nend\n";
+
+const WHOLE_IN_TWO: &str =
+    "pbs-certificate 2\naward 2 1\nproof 1 1\nwhole 60 0000000000000000 0 0\nnoline 1 1\nproof 1 1\nlens 60 0000000000000001 0 0\nweights 1 1:-1\nby 1 1\nshown 1 2\nproof 1 1\nlens 60 0000000000000001 0 0\nweights 1 1:-1\nby 1 1\nline\nline 1\nend\n";
+
+const PLAIN_IN_THREE: &str =
+    "pbs-certificate 3\naward 2 1\nproof 1 1\nlens 60 0000000000000000 0 0\nnoline 1 1\nproof 1 1\nlens 60 0000000000000001 0 0\nweights 1 1:-1\nby 1 1\nshown 1 2\nproof 1 1\nlens 60 0000000000000001 0 0\nweights 1 1:-1\nby 1 1\nline\nline 1\nend\n";
+
+/// Certificates written anew, and checked in versions 2 and 3.
+pub(crate) const RESPELT: [Asked; 15] = [
+    (
+        &SENIORITY,
+        &[("certificate.txt", SHOWN_THREE)],
+        &["check"],
+        Status::Done,
+        "yes\nvector 10 0\n",
+        ("certificate.txt", Some(SHOWN_THREE)),
+    ),
+    (
+        &SENIORITY,
+        &[("certificate.txt", SHOWN_THREE)],
+        &["migrate"],
+        Status::Done,
+        "migrated 3\n",
+        ("certificate.txt", Some(SHOWN_THREE)),
+    ),
+    (
+        &SENIORITY,
+        &[("certificate.txt", WHOLE_IN_TWO)],
+        &["check"],
+        Status::No,
+        "no certificate 4 2\n",
+        ("certificate.txt", Some(WHOLE_IN_TWO)),
+    ),
+    (
+        &SENIORITY,
+        &[("certificate.txt", WHOLE_IN_TWO)],
+        &["migrate"],
+        Status::No,
+        "no certificate 4 2\n",
+        ("certificate.txt", Some(WHOLE_IN_TWO)),
+    ),
+    (
+        &SENIORITY,
+        &[("certificate.txt", PLAIN_IN_THREE)],
+        &["check"],
+        Status::No,
+        "no certificate 12 2\n",
+        ("certificate.txt", Some(PLAIN_IN_THREE)),
+    ),
     (
         &SENIORITY,
         &[],

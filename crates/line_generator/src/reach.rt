@@ -1,5 +1,5 @@
 //! Members whose bids weigh less together than a goal asks of them.
-ghost use Rattle.std.specs.Prelude.{◌≡◌, ◌<◌, ◌≤◌, ◌^◌, ◌↔◌, List, IsTrue, length, slice_get, sum_by, true};
+ghost use Rattle.std.specs.Prelude.{◌≡◌, ◌<◌, ◌≤◌, ◌^◌, ◌↔◌, ℕ, List, IsTrue, Some, length, slice_get, sum_by, true};
 ghost use Rattle.std.specs.Option.{ForSome};
 ghost use Rattle.roster_model.specs.Lawful.{bids_weight};
 ghost use Rattle.roster_model.specs.Lenses.{HasNoLine};
@@ -40,6 +40,8 @@ pub fn is_out_of_reach(problem: &Problem, member: u32, goal: &Goal) -> bool
     requires member { member < length problem.now.base.members }
     ensures none { IsTrue result → (node : List Decision) (lens : LensOf)
         → HasNoLine problem.now member goal.now node lens }
+    ensures yes { (floor : ℕ) → slice_get goal.now.floors member ≡ Some floor
+        → bids_weight problem.now member < floor → IsTrue result }
 {
     let most = bids_weight(problem, member);
     !is_within(goal, member, most)

@@ -7,6 +7,7 @@ use roster_model::Problem;
 /// Whether each weight is within its limit.
 pub fn are_small(weights: &[i64]) -> bool
     ensures small { IsTrue result → AreSmallWeights weights.now }
+    ensures yes { AreSmallWeights weights.now → IsTrue result }
 {
     for weight in weights {
         if *weight < -2_147_483_647 || *weight > 2_147_483_647 {
@@ -19,6 +20,7 @@ pub fn are_small(weights: &[i64]) -> bool
 /// Whether all pairings of the line are of the problem.
 pub fn are_known(problem: &Problem, line: &[u32]) -> bool
     ensures known { IsTrue result → All (λ p. p < length problem.now.base.pairings) line.now }
+    ensures yes { All (λ p. p < length problem.now.base.pairings) line.now → IsTrue result }
 {
     let count = problem.base.pairings.len();
     line.iter().all(|pairing| (*pairing as usize) < count)

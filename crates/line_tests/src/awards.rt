@@ -8,8 +8,10 @@ use crate::june::{
 };
 use duty_calendar::{List, Memory};
 use month_award::{MonthAward, award_month};
+use plain_guide::PlainGuide;
 use roster_model::{Bid, BidRef, Cause, Certificate, Denial, Item, Problem, Reasons, Wish};
 use std::alloc::Global;
+use weight_certificates::Rounds;
 
 /// The bids to fly the first pairing and to fly the second, of one weight.
 fn either_pairing(alloc: Global) -> Result<List<Bid>, Memory>
@@ -69,7 +71,7 @@ fn awarded(alloc: Global, problem: &Problem, nodes: u32) -> Result<MonthAward, M
     requires some_nodes { 1 ≤ nodes }
     requires few_nodes { nodes ≤ 20000 }
 {
-    award_month(alloc, problem, nodes)
+    award_month::<Rounds<PlainGuide>>(alloc, problem, nodes)
 }
 
 /// How many proofs show an award, and how many parts show its denials.

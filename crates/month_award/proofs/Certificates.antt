@@ -1,5 +1,5 @@
 -- Certificates of tidy proofs and parts have a text that is read and is not too long.
-use Rattle.std.proofs.Common.{◌≡◌, ℕ, ◌+◌, ◌*◌, ◌≤◌, List, [], ◌∷◌, ◌++◌, length, decimal, codes, refl, arith, length-append}
+use Rattle.std.proofs.Common.{◌≡◌, ℕ, ◌+◌, ◌*◌, ◌≤◌, List, [], ◌∷◌, ◌++◌, length, decimal, codes, refl, ◌∙◌, arith, length-append}
 use Rattle.std.specs.List.{flat_map}
 use Rattle.std.proofs.lemmas.Bool.{and_from}
 use Rattle.roster_model.specs.declared.proof.Item.{Item}
@@ -8,8 +8,9 @@ use Rattle.roster_model.specs.declared.award.Certificate.{Certificate}
 use Rattle.roster_model.specs.declared.award.Certificate.TheVariants as form
 use Rattle.roster_model.specs.Splits.{splits_in, all_splits, shown_splits}
 use Rattle.cert_text.specs.declared.limits.TheConstants.{MOST_PROOFS, MOST_SHOWN}
-use Rattle.cert_text.specs.Spelling.{line_text, proof_text, shown_text, body_text, certificate_text}
+use Rattle.cert_text.specs.Spelling.{line_text, proof_text, shown_text, body_text, certificate_text, written_text}
 use Rattle.cert_text.specs.declared.version.Version.TheVariants.{Two}
+use Rattle.cert_text.proofs.Written.{written_length}
 use Rattle.month_award.specs.Months.{IsWritable}
 use Rattle.month_award.proofs.Numbers.{within}
 use Rattle.month_award.proofs.Lengths.{number-length, words-more, words-one, line-length}
@@ -19,14 +20,17 @@ use Rattle.month_award.proofs.Rosters.{rows_most}
 use Rattle.month_award.proofs.Parts.{part_most, parts_most, AreTidyParts, parts-fit, parts-length}
 
 -- the lines around the body
-frame-length : (c : Certificate) → length (certificate_text Two c) ≡ 22 + length (body_text Two c)
+frame-two : (c : Certificate) → length (certificate_text Two c) ≡ 22 + length (body_text Two c)
 unfolding certificate_text
-frame-length c =
+frame-two c =
     let first = line_text (codes "pbs-certificate") (codes "2" ∷ []) in
     let last = line_text (codes "end") [] in
     let eighteen : length first ≡ 18 = refl in
     let four : length last ≡ 4 = refl in
     omega (arith, length-append first (body_text Two c ++ last), length-append (body_text Two c) last, eighteen, four)
+
+frame-length : (c : Certificate) → length (written_text c) ≡ 22 + length (body_text Two c)
+frame-length c = written_length c ∙ frame-two c
 
 award-body : (proofs : List (List Item)) (shown : List Shown) → length proofs ≤ 200 → length shown ≤ 12800
     → length (body_text Two (form.Award (record { proofs = proofs; shown = shown })))

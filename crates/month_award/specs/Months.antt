@@ -14,8 +14,7 @@ use Rattle.roster_model.specs.Denials.{IsAwarded}
 use Rattle.roster_model.specs.Lawful.{AreGreatest, IsLawful}
 use Rattle.roster_model.specs.Splits.{splits_in, all_splits, shown_splits}
 use Rattle.cert_text.specs.Limits.{is_certificate}
-use Rattle.cert_text.specs.Spelling.{certificate_text}
-use Rattle.cert_text.specs.declared.version.Version.TheVariants.{Two}
+use Rattle.cert_text.specs.Spelling.{written_text}
 use Rattle.month_award.specs.declared.outcome.AwardedMonth.{AwardedMonth}
 use Rattle.month_award.specs.declared.outcome.UnfillableMonth.{UnfillableMonth}
 use Rattle.month_award.specs.declared.outcome.MonthAward.{MonthAward}
@@ -24,7 +23,7 @@ use Rattle.month_award.specs.declared.outcome.MonthAward.TheVariants.{Award, NoR
 -- the certificate has a text that is read, and that is no longer than its file may be
 pub record IsWritable (certificate : Certificate) : Type 0 where
   pub limits : is_certificate certificate ≡ true
-  pub bytes : length (certificate_text Two certificate) ≤ 2147483648
+  pub bytes : length (written_text certificate) ≤ 2147483648
 
 -- a lawful ledger of the problem, by 400 rounds, has so many entries
 pub record HasLedger (problem : Problem) (count : ℕ) : Type 0 where

@@ -8,19 +8,22 @@ ghost use Rattle.month_award.specs.Runs.{HasAwarded};
 
 use crate::outcome::{AwardedMonth, MonthAward, UnfillableMonth};
 use award_loop::{Outcome, award};
-use branch_log::{Closer, Ledger};
+use branch_log::{Closer, FreshCloser, Ledger};
 use denials::{Explained, explain};
 use duty_calendar::{List, Memory};
 use roster_model::{Awarded, Certificate, Problem, Proof, Roster};
 use std::alloc::Global;
-use weight_certificates::Rounds;
 
 /// How many rounds of lines show that a node is open.
 const ROUNDS: u32 = 400;
 
 /// Awards the month and explains the bids that it does not grant, with a ledger that has room for so many nodes, from 1
 /// to 20,000. A node is open where 400 rounds of lines show it.
-pub fn award_month(alloc: Global, problem: &Problem, nodes: u32) -> Result<MonthAward, Memory>
+pub fn award_month<C: FreshCloser>(
+    alloc: Global,
+    problem: &Problem,
+    nodes: u32,
+) -> Result<MonthAward, Memory>
     requires some_nodes { 1 ≤ nodes }
     requires few_nodes { nodes ≤ 20000 }
     ensures outcome { IfOk result (IsMonthAward problem.now nodes) }
@@ -28,7 +31,7 @@ pub fn award_month(alloc: Global, problem: &Problem, nodes: u32) -> Result<Month
     ensures enough { most_searches problem.now * 2 ^ pairs_of problem.now < nodes
         → IfOk result IsNotBudget }
 {
-    let mut closer = Rounds::new(alloc, problem, ROUNDS)?;
+    let mut closer = C::new(alloc, problem, ROUNDS)?;
     let mut ledger = Ledger::new(alloc, nodes, ROUNDS)?;
     match award(alloc, problem, &mut closer, &mut ledger)? {
         Outcome::Award(roster, proofs) => {

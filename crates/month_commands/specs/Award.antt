@@ -10,8 +10,7 @@ use Rattle.roster_model.specs.Ledgers.{pairs_of}
 use Rattle.roster_model.specs.Lawful.{most_searches}
 use Rattle.roster_model.specs.declared.award.Denial.{Denial}
 use Rattle.cert_text.specs.Reading.{certificate_in}
-use Rattle.cert_text.specs.Spelling.{certificate_text}
-use Rattle.cert_text.specs.declared.version.Version.TheVariants.{Two}
+use Rattle.cert_text.specs.Spelling.{written_text}
 use Rattle.month_award.specs.declared.outcome.AwardedMonth.{AwardedMonth}
 use Rattle.month_award.specs.declared.outcome.UnfillableMonth.{UnfillableMonth}
 use Rattle.month_award.specs.declared.outcome.MonthAward.TheVariants.{Award as MonthIsAwarded}
@@ -42,7 +41,7 @@ use Rattle.month_files.specs.Writes.{IsStop}
 
 -- a certificate in its file
 abbrev pub certificate_draft : Certificate → Draft
-certificate_draft certificate = record { file = CertificateFile; bytes = certificate_text Two certificate }
+certificate_draft certificate = record { file = CertificateFile; bytes = written_text certificate }
 
 -- reasons in their file
 abbrev pub reasons_draft : Problem → List Denial → Draft
@@ -54,8 +53,8 @@ roster_draft problem roster = record { file = RosterFile; bytes = roster_text pr
 
 -- `check` reads the certificate's text as the certificate, and within its limit
 pub record IsReadable (certificate : Certificate) : Type 0 where
-  pub again : certificate_in (certificate_text Two certificate) ≡ Ok certificate
-  pub fits : length (certificate_text Two certificate) ≤ limit_of CertificateFile
+  pub again : certificate_in (written_text certificate) ≡ Ok certificate
+  pub fits : length (written_text certificate) ≤ limit_of CertificateFile
 
 -- the same of a roster
 pub record IsReadableRoster (problem : Problem) (roster : List (List ℕ)) : Type 0 where

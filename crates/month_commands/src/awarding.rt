@@ -18,6 +18,7 @@ ghost use Rattle.month_files.specs.Writes.{Leaves};
 
 use crate::award_stop::{AwardStop, Finding, Found, Miss};
 use bid_score::scores_of;
+use branch_log::FreshCloser;
 use cert_text::print_certificate;
 use duty_calendar::{List, Memory};
 use month_award::{AwardedMonth, MonthAward, UnfillableMonth, award_month};
@@ -138,12 +139,12 @@ fn unfillable(
 }
 
 /// What comes of the award of a month with so many nodes at most.
-fn find(alloc: Global, problem: &Problem, nodes: u32) -> Result<Finding, Miss>
+fn find<C: FreshCloser>(alloc: Global, problem: &Problem, nodes: u32) -> Result<Finding, Miss>
     requires some { 1 ≤ nodes }
     requires few { nodes ≤ 20000 }
     ensures found { IsFinding problem.now nodes result }
 {
-    match award_month(alloc, problem, nodes)? {
+    match award_month::<C>(alloc, problem, nodes)? {
         MonthAward::Award(month) => Ok(awarded(alloc, problem, nodes, &month)?),
         MonthAward::NoRoster(month) => Ok(unfillable(alloc, problem, nodes, &month)?),
         MonthAward::Budget => Err(Miss::Budget(nodes)),
@@ -170,7 +171,11 @@ fn write_found<S: Shelf>(
 }
 
 /// Awards the month in the folder with so many nodes at most, and writes what was found.
-pub fn award<S: Shelf>(alloc: Global, shelf: &mut S, nodes: u32) -> Result<Finding, AwardStop>
+pub fn award<C: FreshCloser, S: Shelf>(
+    alloc: Global,
+    shelf: &mut S,
+    nodes: u32,
+) -> Result<Finding, AwardStop>
     requires some { 1 ≤ nodes }
     requires few { nodes ≤ 20000 }
     ensures cause { AwardCause (S.tally shelf.old) (S.tally shelf.new) result }
@@ -180,6 +185,6 @@ pub fn award<S: Shelf>(alloc: Global, shelf: &mut S, nodes: u32) -> Result<Findi
 {
     let texts = read_texts(alloc, shelf)?;
     let problem = read_month(alloc, &texts)?;
-    let finding = find(alloc, &problem, nodes)?;
+    let finding = find::<C>(alloc, &problem, nodes)?;
     write_found(alloc, shelf, finding)
 }

@@ -11,6 +11,7 @@ ghost use Rattle.month_commands.specs.Trial.{Tries, IsTried, IsTrial};
 
 use crate::award_stop::{Found, Miss};
 use bid_score::scores_of;
+use branch_log::FreshCloser;
 use cert_checker::{No, judge, judge_none};
 use duty_calendar::Memory;
 use month_award::{AwardedMonth, MonthAward, UnfillableMonth, award_month};
@@ -100,12 +101,12 @@ fn unfillable(
 }
 
 /// What comes of the award of a month with so many nodes at most.
-fn try_month(alloc: Global, problem: &Problem, nodes: u32) -> Result<Tried, Miss>
+fn try_month<C: FreshCloser>(alloc: Global, problem: &Problem, nodes: u32) -> Result<Tried, Miss>
     requires some { 1 ≤ nodes }
     requires few { nodes ≤ 20000 }
     ensures tried { IsTried problem.now nodes result }
 {
-    match award_month(alloc, problem, nodes)? {
+    match award_month::<C>(alloc, problem, nodes)? {
         MonthAward::Award(month) => Ok(awarded(alloc, problem, nodes, &month)?),
         MonthAward::NoRoster(month) => Ok(unfillable(alloc, problem, nodes, &month)?),
         MonthAward::Budget => Err(Miss::Budget(nodes)),
@@ -114,7 +115,7 @@ fn try_month(alloc: Global, problem: &Problem, nodes: u32) -> Result<Tried, Miss
 
 /// Awards the month that is made of a number, for so many members and pairings, with so many nodes at most, and judges
 /// the award.
-pub fn trial(
+pub fn trial<C: FreshCloser>(
     alloc: Global,
     number: u64,
     members: u32,
@@ -129,5 +130,5 @@ pub fn trial(
     ensures trial { IsTrial number members pairings nodes result }
 {
     let problem = instance_maker::make(alloc, number, members, pairings)?;
-    try_month(alloc, &problem, nodes)
+    try_month::<C>(alloc, &problem, nodes)
 }

@@ -2,7 +2,7 @@
 use Rattle.std.specs.Prelude.{◌≡◌, ◌≤◌, ℕ, List, length, Option, Some, None, Result, Ok, Err, nat_lt, if◌then◌else◌}
 use Rattle.shelf.specs.Files.{Files, file}
 use Rattle.shelf.specs.declared.tally.Tally.{Tally}
-use Rattle.shelf.specs.Tallies.{ReadFails, Misses, FindsLong}
+use Rattle.shelf.specs.Tallies.{ReadFails, Misses, FindsLong, Wants}
 use Rattle.month_files.specs.FileNames.{name_of, limit_of}
 use Rattle.month_files.specs.declared.file.File.{File}
 use Rattle.month_files.specs.declared.file.File.TheVariants.{Rules, Pairings, Duties, Legs, Crew, History, Fixed, Bids}
@@ -15,12 +15,17 @@ abbrev pub ◌>>=◌ : {A B : Type 0} → Result A Unread → (A → Result B Un
 (Ok x) >>= f = f x
 (Err why) >>= f = Err why
 
+-- the shelf found no memory for one of the files
+pub record Lacks (old new : Tally) : Type 0 where
+  pub file : File
+  pub wants : Wants (name_of file) old new
+
 -- which change of the shelf's counts it comes with that a file was not read
 abbrev pub UnreadCause : Tally → Tally → Unread → Type 0
 UnreadCause old new (unread.Missing f) = Misses (name_of f) old new
 UnreadCause old new (unread.ReadFault f) = ReadFails (name_of f) old new
 UnreadCause old new (unread.TooLong f) = FindsLong (name_of f) old new
-UnreadCause old new unread.NoMemory = new ≡ old
+UnreadCause old new unread.NoMemory = Lacks old new
 
 -- without such an end the counts are as before
 abbrev pub HasCause : {T : Type 0} → Tally → Tally → Result T Unread → Type 0

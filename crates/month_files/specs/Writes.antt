@@ -1,7 +1,7 @@
 -- What a run leaves of the files of a shelf.
 use Rattle.std.specs.Prelude.{◌≡◌, ℕ, List, [], ◌∷◌, map, take, slice_get, Option, Some, None, Result, Ok, Err}
 use Rattle.shelf.specs.Files.{Files, SameButAt, with_file}
-use Rattle.shelf.specs.Tallies.{WriteFails}
+use Rattle.shelf.specs.Tallies.{WriteFails, Wants}
 use Rattle.shelf.specs.declared.tally.Tally.{Tally}
 use Rattle.month_files.specs.FileNames.{name_of}
 use Rattle.month_files.specs.declared.writing.Draft.{Draft}
@@ -50,7 +50,7 @@ pub record IsStop (drafts : List Draft) (u : Unwritten) : Type 0 where
 -- which change of the shelf's counts a write comes with that did not end well
 abbrev pub StopCause : List ℕ → Tally → Tally → WriteStop → Type 0
 StopCause name old new stop.Fault = WriteFails name old new
-StopCause name old new stop.NoMemory = new ≡ old
+StopCause name old new stop.NoMemory = Wants name old new
 
 abbrev pub FileCause : List ℕ → Tally → Tally → Result (Unit {0}) WriteStop → Type 0
 FileCause name old new (Ok _) = new ≡ old

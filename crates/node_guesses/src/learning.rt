@@ -1,6 +1,6 @@
 //! What a guide learns from the award of a problem that differs by little.
 
-use crate::guide::Guide;
+use crate::guide::MixGuide;
 use duty_calendar::{Copied, Memory};
 use line_mixes::{Board, Care, Columns, Kept, Mix, Program};
 use roster_guesses::program_of;
@@ -93,7 +93,7 @@ pub(crate) fn is_mixed(
     Ok(is_solved)
 }
 
-impl Guide {
+impl MixGuide {
     /// Whether it is worth a look what kept lines can be mixed for: they were learned, and a program of them is not large.
     pub(crate) fn may_mix(&self, problem: &Problem) -> bool {
         let (members, pairings) = (problem.base.members.len(), problem.base.pairings.len());
@@ -140,7 +140,7 @@ impl Guide {
     /// Learns from the award of a problem that differs by little: the roster is known, lines of rosters are kept, and the
     /// roots of each place begin with the weights of its proof. Programs are used from the first relaxation on, since with
     /// so many lines they soon come to an end.
-    pub fn learn(
+    pub(crate) fn learn_award(
         &mut self,
         alloc: Global,
         problem: &Problem,
@@ -155,7 +155,7 @@ impl Guide {
     }
 
     /// Keeps a line of the member that was found elsewhere.
-    pub fn offer(
+    pub(crate) fn keep_line(
         &mut self,
         alloc: Global,
         problem: &Problem,
@@ -181,8 +181,8 @@ impl Guide {
             return Ok(());
         }
         let weights = Vec::from_slice(alloc, learned)?;
-        self.open_goal = None;
-        self.warm = Some(mix_with(alloc, problem, &self.kept, weights)?);
+        let mix = mix_with(alloc, problem, &self.kept, weights)?;
+        self.keep_warm(mix, None);
         Ok(())
     }
 }

@@ -2,9 +2,10 @@
 ghost use Rattle.std.specs.Prelude.{◌≡◌};
 ghost use Rattle.roster_model.specs.Goals.{IsGoal};
 
-use crate::guess::{Guess, mixed_of};
-use crate::guide::{Guide, MIXES};
+use crate::guess::{bounded_of, mixed_of};
+use crate::guide::{MIXES, MixGuide};
 use crate::pairs::branch_pair;
+use closer_guide::Guess;
 use duty_calendar::Memory;
 use line_mixes::{Board, Care, Kept, Mix, Priced, number, price};
 use roster_guesses::{Relaxed, plainer, relax};
@@ -159,7 +160,7 @@ fn is_decided(
     Ok(false)
 }
 
-impl Guide {
+impl MixGuide {
     /// The split of a node that the mix leaves open.
     fn split(
         &mut self,
@@ -205,7 +206,7 @@ impl Guide {
             Relaxed::Open(mix) => mix,
             Relaxed::Bounded(leaf) => {
                 let leaf = plainer(alloc, problem, kept, goal, board, leaf)?;
-                return Ok(Planning::Leaf(Guess::Bounded(leaf)));
+                return Ok(Planning::Leaf(Guess::Bounded(bounded_of(leaf))));
             }
             Relaxed::NoLine(member, lens) => {
                 return Ok(Planning::Leaf(Guess::NoLine(member, lens)));

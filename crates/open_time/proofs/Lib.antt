@@ -1,6 +1,8 @@
 pub mod Spelled
 pub mod Months
 pub mod Inserted
+pub mod Moving
+pub mod Sweeping
 pub mod OneMonth
 pub mod Needs
 pub mod Attempts

@@ -1,12 +1,14 @@
 -- The search for the fewest vacant lines: what is known before each number, and what each exit answers.
-use Rattle.std.proofs.Common.{◌≡◌, ℕ, suc, ◌≤◌, List, length, Option, Some, None, refl, subst, arith}
+use Rattle.std.proofs.Common.{◌≡◌, ℕ, suc, ◌≤◌, List, length, Option, Some, None, refl, ap, subst, arith}
+use Rattle.std.proofs.lemmas.List.{length-append}
+use Rattle.duty_calendar.specs.declared.member.Member.{Member}
 use Rattle.roster_model.specs.declared.award.Awarded.{Awarded}
 use Rattle.roster_model.specs.declared.award.Denial.{Denial}
 use Rattle.roster_model.specs.declared.problem.Problem.{Problem}
 use Rattle.roster_model.specs.declared.proof.Item.{Item}
 use Rattle.roster_model.specs.Splits.{splits_of}
 use Rattle.branch_log.specs.Book.{Book}
-use Rattle.open_time.specs.Vacant.{IsWithVacant, HasRoomFor}
+use Rattle.open_time.specs.Vacant.{IsWithVacant, HasRoomFor, vacant_members}
 use Rattle.open_time.specs.Refuted.{IsRefutedBelow, IsOpenAward}
 use Rattle.open_time.specs.Tries.{IsRunOf, IsTriedAward, IsTriedNone}
 use Rattle.open_time.specs.Opened.{IsOpenedAward, IsOpenedNone, IsOpenedSpent}
@@ -24,10 +26,16 @@ pub record HasTried (problem : Problem) (ceiling nodes count : ℕ) (below : Opt
 pub tried_nothing : (problem : Problem) (ceiling nodes : ℕ) → HasRoomFor problem ceiling → HasTried problem ceiling nodes 0 None
 tried_nothing problem ceiling nodes room = record { room = room; within = omega arith; fewer = refl; short = omega arith }
 
+-- the members stand before the vacant lines
+pub crew_kept : (problem : Problem) (count : ℕ) (made : Problem) → IsWithVacant problem count made
+    → length problem.base.members ≤ length made.base.members
+crew_kept problem count made of =
+    omega (arith, ap (λ (ms : List Member). length ms) of.members, length-append problem.base.members (vacant_members count))
+
 -- the answers at one number
 module _ (problem : Problem) (ceiling nodes count : ℕ) (below : Option (List Item)) (tried : HasTried problem ceiling nodes count below)
     (made : Problem) (of : IsWithVacant problem count made) (book : Book) (run : IsRunOf made nodes book) where
-  pub opened_award : (roster : List (List ℕ)) (awarded : Awarded) (reasons : List Denial) → IsTriedAward made book roster awarded reasons
+  pub opened_award : (roster : List (List ℕ)) (awarded : Awarded) (reasons : List Denial) → IsTriedAward made (length problem.base.members) book roster awarded reasons
       → IsOpenedAward problem ceiling nodes count below roster awarded reasons book
   opened_award roster awarded reasons h =
       let award : IsOpenAward problem count below roster reasons awarded = record {
@@ -40,6 +48,7 @@ module _ (problem : Problem) (ceiling nodes count : ℕ) (below : Option (List I
         needs = needs_vacant problem count below roster reasons awarded award;
         fewest = unfilled_under problem count award.room (below_unfilled problem count below tried.fewer);
         award = award;
+        settled = record { made = made; of = of; settled = h.settled };
         short = tried.short;
         run = record { made = made; of = of; run = run };
         room = h.room;

@@ -1,5 +1,6 @@
 pub mod Vacant
 pub mod Eligible
+pub mod Moves
 pub mod Refuted
 pub mod Tries
 pub mod Opened

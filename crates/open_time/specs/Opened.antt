@@ -9,6 +9,7 @@ use Rattle.branch_log.specs.Book.{Book}
 use Rattle.completion_search.specs.Found.{HasRoom, IsFull}
 use Rattle.open_time.specs.declared.opened.Opened.{Opened}
 use Rattle.open_time.specs.declared.opened.Opened.TheVariants.{Award, NoRoster, Spent}
+use Rattle.open_time.specs.Moves.{IsSettled}
 use Rattle.open_time.specs.Vacant.{IsWithVacant, IsUnfilledBelow, IsUnfilledUnder, NeedsVacant}
 use Rattle.open_time.specs.Refuted.{IsRefutedWith, IsOpenAward}
 use Rattle.open_time.specs.Tries.{IsRunOf}
@@ -19,6 +20,12 @@ pub record IsRunWith (problem : Problem) (count nodes : ℕ) (book : Book) : Typ
   pub of : IsWithVacant problem count made
   pub run : IsRunOf made nodes book
 
+-- no vacant line can give a pairing to a member so that the roster stays complete and each score what it is
+pub record IsSettledWith (problem : Problem) (count : ℕ) (roster : List (List ℕ)) : Type 0 where
+  pub made : Problem
+  pub of : IsWithVacant problem count made
+  pub settled : IsSettled made (length problem.base.members) roster
+
 -- So many are needed, and no lesser number is enough; the proof refutes one less, and the award with them is accepted. The ledger is that of this number;
 -- its entries are at least as many as the certificate has splits.
 pub record IsOpenedAward (problem : Problem) (ceiling nodes count : ℕ) (below : Option (List Item)) (roster : List (List ℕ)) (awarded : Awarded) (reasons : List Denial) (book : Book) : Type 0 where
@@ -26,6 +33,7 @@ pub record IsOpenedAward (problem : Problem) (ceiling nodes count : ℕ) (below 
   pub needs : NeedsVacant problem count
   pub fewest : IsUnfilledUnder problem count
   pub award : IsOpenAward problem count below roster reasons awarded
+  pub settled : IsSettledWith problem count roster
   pub short : splits_of below ≤ nodes
   pub run : IsRunWith problem count nodes book
   pub room : HasRoom book

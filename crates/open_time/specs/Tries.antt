@@ -13,6 +13,7 @@ use Rattle.completion_search.specs.Found.{HasRoom, IsFull}
 use Rattle.open_time.specs.declared.tries.Tried.{Tried}
 use Rattle.open_time.specs.declared.tries.Tried.TheVariants.{Award, NoRoster, Spent}
 use Rattle.open_time.specs.declared.tries.Attempt.{Attempt}
+use Rattle.open_time.specs.Moves.{IsSettled}
 
 -- a lawful ledger of the month, of 400 rounds and with room for so many nodes
 pub record IsRunOf (problem : Problem) (nodes : ℕ) (book : Book) : Type 0 where
@@ -30,10 +31,12 @@ pub record HasAwarded (problem : Problem) (book : Book) (roster : List (List ℕ
   pub best : IsBest problem roster proofs
   pub short : all_splits proofs ≤ length book.entries
 
--- an award that is accepted, with at most as many splits as the ledger has entries
-pub record IsTriedAward (problem : Problem) (after : Book) (roster : List (List ℕ)) (awarded : Awarded) (reasons : List Denial) : Type 0 where
+-- an award that is accepted, with at most as many splits as the ledger has entries, in which no line from `crew` on can give a
+-- pairing to one before
+pub record IsTriedAward (problem : Problem) (crew : ℕ) (after : Book) (roster : List (List ℕ)) (awarded : Awarded) (reasons : List Denial) : Type 0 where
   pub room : HasRoom after
   pub accepted : IsAwarded problem roster reasons awarded
+  pub settled : IsSettled problem crew roster
   pub splits : all_splits awarded.proofs + shown_splits awarded.shown ≤ length after.entries
 
 -- a proof that there is no complete roster
@@ -43,12 +46,12 @@ pub record IsTriedNone (problem : Problem) (after : Book) (proof : List Item) : 
   pub splits : splits_in proof ≤ length after.entries
 
 -- spent exactly where the ledger is full
-abbrev pub IsTried : Problem → Book → Tried → Type 0
-IsTried problem after (Award roster awarded reasons) = IsTriedAward problem after roster awarded reasons
-IsTried problem after (NoRoster proof) = IsTriedNone problem after proof
-IsTried problem after Spent = IsFull after
+abbrev pub IsTried : Problem → ℕ → Book → Tried → Type 0
+IsTried problem crew after (Award roster awarded reasons) = IsTriedAward problem crew after roster awarded reasons
+IsTried problem crew after (NoRoster proof) = IsTriedNone problem after proof
+IsTried problem crew after Spent = IsFull after
 
 -- what one number comes to, over a ledger of its own
-pub record IsAttempt (problem : Problem) (nodes : ℕ) (attempt : Attempt) : Type 0 where
+pub record IsAttempt (problem : Problem) (crew nodes : ℕ) (attempt : Attempt) : Type 0 where
   pub run : IsRunOf problem nodes attempt.ledger
-  pub tried : IsTried problem attempt.ledger attempt.tried
+  pub tried : IsTried problem crew attempt.ledger attempt.tried

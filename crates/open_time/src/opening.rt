@@ -1,5 +1,5 @@
 //! The search for the fewest vacant lines.
-ghost use Rattle.std.specs.Prelude.{◌≡◌, ◌≤◌, OnOk, IfOk, IfErr};
+ghost use Rattle.std.specs.Prelude.{◌≡◌, ◌≤◌, length, OnOk, IfOk, IfErr};
 ghost use Rattle.open_time.specs.Vacant.{HasRoomFor, IsOpenFault};
 ghost use Rattle.open_time.specs.Opened.{IsOpened};
 
@@ -11,6 +11,13 @@ use branch_log::Closer;
 use duty_calendar::Memory;
 use roster_model::{Problem, Proof};
 use std::alloc::Global;
+
+/// How many members there are.
+fn crew_of(problem: &Problem) -> u32
+    ensures value { result ≡ length problem.now.base.members }
+{
+    problem.base.members.len() as u32
+}
 
 /// The fewest vacant lines with which the crew can fly the month, up to a ceiling, and the award at that number. The
 /// numbers are tried from 0 on, each over a ledger of its own with room for so many nodes, by a closer that `make` gives
@@ -32,10 +39,11 @@ pub fn fewest<C: Closer + Drop, M: FnMut(&Problem) -> Result<C, Memory>>(
 {
     admit(alloc, problem, ceiling)?;
     let mut none: Option<Proof> = None;
+    let crew = crew_of(problem);
     for count in 0..ceiling + 1 {
         let made = add_vacant(alloc, problem, count)?;
         let closer = make(&made)?;
-        let Attempt { tried, ledger } = try_over(alloc, &made, closer, nodes)?;
+        let Attempt { tried, ledger } = try_over(alloc, &made, crew, closer, nodes)?;
         match tried {
             Tried::Award(roster, awarded, reasons) => {
                 return Ok(Opened::Award(count, none, roster, awarded, reasons, ledger));

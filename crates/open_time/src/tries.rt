@@ -1,8 +1,10 @@
 //! What one number of vacant lines comes to.
 ghost use Rattle.std.specs.Prelude.{◌≡◌, ◌≤◌, [], length, IfOk};
 ghost use Rattle.branch_log.specs.Book.{IsLawfulBook};
+ghost use Rattle.open_time.specs.Moves.{IsSettled};
 ghost use Rattle.open_time.specs.Tries.{HasAwarded, IsAttempt, IsTried};
 
+use crate::settling::settled;
 use award_loop::{Outcome, award};
 use branch_log::{Closer, Ledger};
 use denials::{Explained, explain};
@@ -31,26 +33,31 @@ pub(crate) struct Attempt {
     pub ledger: Ledger,
 }
 
-/// The award of a month by a closer of its own, over an empty ledger with room for so many nodes.
+/// The award of a month by a closer of its own, over an empty ledger with room for so many nodes. The lines from `crew` on
+/// are vacant.
 pub(crate) fn try_over<C: Closer + Drop>(
     alloc: Global,
     problem: &Problem,
+    crew: u32,
     mut closer: C,
     nodes: u32,
 ) -> Result<Attempt, Memory>
     requires fits { C.fits closer problem.now }
     requires rounds { C.rounds closer ≡ 400 }
-    ensures attempt { IfOk result (IsAttempt problem.now nodes) }
+    requires crew { crew ≤ length problem.now.base.members }
+    ensures attempt { IfOk result (IsAttempt problem.now crew nodes) }
 {
     let mut ledger = Ledger::new(alloc, nodes, ROUNDS)?;
-    let tried = try_month(alloc, problem, &mut closer, &mut ledger)?;
+    let tried = try_month(alloc, problem, crew, &mut closer, &mut ledger)?;
     Ok(Attempt { tried, ledger })
 }
 
-/// The award of a month with the reasons of the bids that it does not grant, over an empty ledger.
+/// The award of a month with the reasons of the bids that it does not grant, over an empty ledger. Its roster is settled
+/// before reasons are looked for, so that they fit it.
 fn try_month<C: Closer>(
     alloc: Global,
     problem: &Problem,
+    crew: u32,
     closer: &mut C,
     ledger: &mut Ledger,
 ) -> Result<Tried, Memory>
@@ -58,14 +65,16 @@ fn try_month<C: Closer>(
     requires rounds { C.rounds closer.old ≡ ledger.old.rounds }
     requires unused { ledger.old.goals ≡ [] }
     requires empty { ledger.old.entries ≡ [] }
-    ensures tried { IfOk result (IsTried problem.now ledger.new) }
+    requires crew { crew ≤ length problem.now.base.members }
+    ensures tried { IfOk result (IsTried problem.now crew ledger.new) }
     ensures lawful { IsLawfulBook problem.now ledger.new }
     ensures cap { ledger.new.cap ≡ ledger.old.cap }
     ensures rounds { ledger.new.rounds ≡ ledger.old.rounds }
 {
     match award(alloc, problem, closer, ledger)? {
         Outcome::Award(roster, proofs) => {
-            with_reasons(alloc, problem, closer, ledger, roster, proofs)
+            let kept = settled(alloc, problem, crew, roster)?;
+            with_reasons(alloc, problem, crew, closer, ledger, kept, proofs)
         }
         Outcome::NoRoster(proof) => Ok(Tried::NoRoster(proof)),
         Outcome::Spent => Ok(Tried::Spent),
@@ -76,6 +85,7 @@ fn try_month<C: Closer>(
 fn with_reasons<C: Closer>(
     alloc: Global,
     problem: &Problem,
+    crew: u32,
     closer: &mut C,
     ledger: &mut Ledger,
     roster: Roster,
@@ -84,11 +94,13 @@ fn with_reasons<C: Closer>(
     requires fits { C.fits closer.old problem.now }
     requires rounds { C.rounds closer.old ≡ ledger.old.rounds }
     requires awarded { HasAwarded problem.now ledger.old roster proofs }
-    ensures tried { IfOk result (IsTried problem.now ledger.new) }
+    requires settled { IsSettled problem.now crew roster }
+    ensures tried { IfOk result (IsTried problem.now crew ledger.new) }
     ensures lawful { IsLawfulBook problem.now ledger.new }
     ensures cap { ledger.new.cap ≡ ledger.old.cap }
     ensures rounds { ledger.new.rounds ≡ ledger.old.rounds }
 {
+    let _ = crew;
     match explain(alloc, problem, closer, &roster, ledger)? {
         Explained::All(reasons, shown) => {
             Ok(Tried::Award(roster, Awarded { proofs, shown }, reasons))

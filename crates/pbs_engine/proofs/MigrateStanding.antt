@@ -4,8 +4,7 @@ use Rattle.std.specs.FinMap.{insert}
 use Rattle.shelf.specs.Files.{Files, file}
 use Rattle.shelf.specs.Logs.{Entries}
 use Rattle.shelf.specs.Puts.{with_piece}
-use Rattle.cert_text.specs.Spelling.{certificate_text}
-use Rattle.cert_text.specs.declared.version.Version.TheVariants.{Two}
+use Rattle.cert_text.specs.Spelling.{written_text}
 use Rattle.command_words.specs.declared.command.Command.{Command}
 use Rattle.command_words.specs.declared.command.Command.TheVariants as command
 use Rattle.desk_commands.specs.Migrate.{IsMigrated, IsMigration, IsMigrationHanded, migrating_order}
@@ -45,7 +44,7 @@ has_certificate files m h = record {
 certificate_left : (old : Files) (new : Option Files) (m : Migrated) → IsMigrated old m → Leaves (Some old) new (written m.drafts (Ok tt))
     → Tells new (λ files. CertificateIsWritten old files m.version)
 certificate_left old new m h left =
-    let bytes : List ℕ = certificate_text Two h.found.certificate in
+    let bytes : List ℕ = written_text h.found.certificate in
     record {
       files = insert old (name_of CertificateFile) bytes;
       told = left ∙ ap (λ (ds : List Draft). with_files (Some old) (map named_bytes ds)) h.found.drafts_are;

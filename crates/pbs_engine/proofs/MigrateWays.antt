@@ -3,9 +3,8 @@ use Rattle.std.proofs.Common.{◌≡◌, ℕ, ◌<◌, ◌≤◌, List, length, 
 use Rattle.std.specs.Prelude.{◌⊎◌}
 use Rattle.shelf.specs.Files.{Files}
 use Rattle.cert_text.specs.Reading.{certificate_in}
-use Rattle.cert_text.specs.Spelling.{certificate_text}
+use Rattle.cert_text.specs.Spelling.{written_text}
 use Rattle.cert_text.specs.declared.fault.CertFault.{CertFault}
-use Rattle.cert_text.specs.declared.version.Version.TheVariants.{Two}
 use Rattle.desk_commands.specs.Migrate.{OfCertificate, IsMigrated, IsUnmigrated}
 use Rattle.desk_commands.specs.declared.migrate_stop.Migrated.{Migrated}
 use Rattle.desk_commands.specs.declared.migrate_stop.Unmigrated.{Unmigrated}
@@ -20,11 +19,11 @@ use Rattle.answer_texts.specs.declared.status.Status.{Status}
 use Rattle.answer_texts.specs.declared.status.Status.TheVariants as status
 use Rattle.pbs_engine.proofs.OneAnswer.{By, IsOne, one_is, one_by, enter, leave}
 
--- the text of version 2 is within the limit, or not
+-- the text to be written is within the limit, or not
 abbrev AfterCertificate : Certificate → Status → Type 0
 AfterCertificate certificate s =
-    ((length (certificate_text Two certificate) ≤ limit_of CertificateFile) × (s ≡ status.Done))
-    ⊎ ((limit_of CertificateFile < length (certificate_text Two certificate)) × (s ≡ status.No))
+    ((length (written_text certificate) ≤ limit_of CertificateFile) × (s ≡ status.Done))
+    ⊎ ((limit_of CertificateFile < length (written_text certificate)) × (s ≡ status.No))
 
 abbrev AfterText : List ℕ → Status → Type 0
 AfterText text s = By (λ (fault : CertFault) u. u ≡ status.No) AfterCertificate (certificate_in text) s
@@ -37,8 +36,8 @@ not_both a b le lt = omega (arith, le, lt)
 
 one_certificate : (certificate : Certificate) → IsOne (AfterCertificate certificate)
 one_certificate certificate s t (inl x) (inl y) = x.1 ∙ sym y.1
-one_certificate certificate s t (inl x) (inr y) = absurd (not_both (length (certificate_text Two certificate)) (limit_of CertificateFile) x.0 y.0)
-one_certificate certificate s t (inr x) (inl y) = absurd (not_both (length (certificate_text Two certificate)) (limit_of CertificateFile) y.0 x.0)
+one_certificate certificate s t (inl x) (inr y) = absurd (not_both (length (written_text certificate)) (limit_of CertificateFile) x.0 y.0)
+one_certificate certificate s t (inr x) (inl y) = absurd (not_both (length (written_text certificate)) (limit_of CertificateFile) y.0 x.0)
 one_certificate certificate s t (inr x) (inr y) = x.1 ∙ sym y.1
 
 one_text : (text : List ℕ) → IsOne (AfterText text)

@@ -74,7 +74,7 @@ below_read files count None below read says = subst (λ (o : Option (List Item))
 below_read files count (Some text) below read says =
     let takes = certificate_takes text (NoRoster says.0) says.2 in
     subst (λ (o : Option (List Item)). BelowIsRead files o) (sym says.1)
-    (takes.0, there OpenNone (file files (name_of OpenNone)) text (below_text files count text read) ∙ ap Some takes.1)
+    (takes.0, there OpenNone (file files (name_of OpenNone)) text (below_text files count text read) ∙ ap Some takes.1, takes.3)
 
 -- ---- what a yes says of them
 
@@ -102,6 +102,7 @@ open_stands files count scores h =
       awarded = shown.awarded;
       version = takes.0;
       certificate_file = there OpenCertificate (file files (name_of OpenCertificate)) lodged.certificate reads.certificate ∙ ap Some takes.1;
+      sayable = takes.3;
       reasons = shown.reasons;
       reasons_file = there OpenReasons (file files (name_of OpenReasons)) lodged.reasons reads.reasons ∙ ap Some shown.says.reasons_read.1;
       judged = shown.accepted;

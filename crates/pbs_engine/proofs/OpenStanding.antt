@@ -4,8 +4,7 @@ use Rattle.std.specs.FinMap.{insert}
 use Rattle.std.specs.Option.{ForSome}
 use Rattle.std.specs.Str.{bytes_eq}
 use Rattle.cert_checker.proofs.Verdicts.{none_complete}
-use Rattle.cert_text.specs.Spelling.{certificate_text}
-use Rattle.cert_text.specs.declared.version.Version.TheVariants.{Two}
+use Rattle.cert_text.specs.Spelling.{written_text}
 use Rattle.shelf.specs.Files.{Files, file}
 use Rattle.shelf.specs.Logs.{Entries}
 use Rattle.shelf.specs.Puts.{with_piece}
@@ -63,7 +62,7 @@ use Rattle.pbs_engine.proofs.WhatIfStanding.{award_of, budget_put}
 
 -- the proof that one vacant line less is not enough, in its file
 abbrev none_bytes : List Item → List ℕ
-none_bytes proof = certificate_text Two (form.NoRoster proof)
+none_bytes proof = written_text (form.NoRoster proof)
 
 abbrev start : Files → Option (List Item) → Files
 start old None = old
@@ -90,7 +89,7 @@ below_kept old first new (Some proof) same h = same ∙ h
 
 module _ (old : Files) (below : Option (List Item)) (made : Problem) (awarded : Awarded) (reasons : List Denial) (roster : List (List ℕ)) where
   abbrev certificate_bytes : List ℕ
-  certificate_bytes = certificate_text Two (form.Award awarded)
+  certificate_bytes = written_text (form.Award awarded)
 
   abbrev reasons_bytes : List ℕ
   reasons_bytes = reasons_text made reasons
@@ -223,7 +222,7 @@ module _ (problem : Problem) (most nodes count entries : ℕ) (scores : List ℕ
     lodged = record {
       inputs = inputs;
       below = none_text found.below;
-      certificate = certificate_text Two (form.Award found.awarded);
+      certificate = written_text (form.Award found.awarded);
       reasons = reasons_text made found.reasons;
       roster = roster_text made found.roster;
     }

@@ -4,9 +4,8 @@ use Rattle.shelf.specs.Files.{Files, file}
 use Rattle.shelf.specs.Logs.{Entries}
 use Rattle.shelf.specs.Puts.{with_piece}
 use Rattle.cert_text.specs.Reading.{certificate_in, version_of, version_number}
-use Rattle.cert_text.specs.Spelling.{certificate_text}
+use Rattle.cert_text.specs.Spelling.{certificate_text, written_text}
 use Rattle.cert_text.specs.declared.version.Version.{Version}
-use Rattle.cert_text.specs.declared.version.Version.TheVariants.{Two}
 use Rattle.desk_commands.specs.Migrate.{OfCertificate, IsUnmigrated, migrating_order}
 use Rattle.desk_commands.specs.declared.migrate_stop.Unmigrated.{Unmigrated}
 use Rattle.month_files.specs.FileNames.{name_of, limit_of}
@@ -26,19 +25,19 @@ pub record IsSpelt (text : List ℕ) (number : ℕ) (certificate : Certificate) 
   pub whole : text ≡ certificate_text version certificate
   pub read : certificate_in text ≡ Ok certificate
 
--- the certificate's file is the text of a certificate in the version of this number, and that certificate's text of
--- version 2 is within the file's limit
+-- the certificate's file is the text of a certificate in the version of this number, which can say it, and the text in
+-- which that certificate is written is within the file's limit
 pub record HasCertificate (files : Files) (number : ℕ) : Type 0 where
   pub text : List ℕ
   pub there : file files (name_of CertificateFile) ≡ Some text
   pub certificate : Certificate
   pub spelt : IsSpelt text number certificate
-  pub fits : length (certificate_text Two certificate) ≤ limit_of CertificateFile
+  pub fits : length (written_text certificate) ≤ limit_of CertificateFile
 
--- it is now that certificate's text of version 2, and each other file is as before
+-- it is now that certificate's text of version 2, or 3 where a lens looks at whole lines, and each other file is as before
 pub record CertificateIsWritten (old new : Files) (number : ℕ) : Type 0 where
   pub before : HasCertificate old number
-  pub certificate_file : file new (name_of CertificateFile) ≡ Some (certificate_text Two before.certificate)
+  pub certificate_file : file new (name_of CertificateFile) ≡ Some (written_text before.certificate)
   pub others : (name : List ℕ) → name ≢ name_of CertificateFile → file new name ≡ file old name
 
 pub record EndsMigrated (old : Files) (new : Option Files) (before after : Option (List ℕ)) : Type 0 where
@@ -46,7 +45,7 @@ pub record EndsMigrated (old : Files) (new : Option Files) (before after : Optio
   pub files : Tells new (λ files. CertificateIsWritten old files number)
   pub put : after ≡ with_piece before (migrated_line number)
 
--- the file is no certificate's text, or the one of version 2 would be longer than the file may be
+-- the file is no certificate's text, or the one to be written would be longer than the file may be
 pub record EndsUnmigrated (old : Files) (new : Option Files) (before after : Option (List ℕ)) : Type 0 where
   pub why : Unmigrated
   pub unmigrated : OfCertificate old (IsUnmigrated why)

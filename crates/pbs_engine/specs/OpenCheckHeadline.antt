@@ -1,8 +1,9 @@
 -- What an answer of `opencheck` says of the files of a folder.
-use Rattle.std.specs.Prelude.{◌≡◌, ℕ, List, Option, None, Some, Ok}
+use Rattle.std.specs.Prelude.{◌≡◌, ℕ, List, Option, None, Some, Ok, true}
 use Rattle.shelf.specs.Files.{Files, file}
 use Rattle.shelf.specs.Logs.{Entries}
 use Rattle.shelf.specs.Puts.{with_piece}
+use Rattle.cert_text.specs.Limits.{is_sayable}
 use Rattle.cert_text.specs.Spelling.{certificate_text}
 use Rattle.cert_text.specs.declared.version.Version.{Version}
 use Rattle.month_files.specs.FileNames.{name_of}
@@ -30,7 +31,9 @@ use Rattle.pbs_engine.specs.Rows.{HasUnopened}
 -- the file of the proof that one vacant line less is not enough, which is read where there is one
 abbrev pub BelowIsRead : Files → Option (List Item) → Type 0
 BelowIsRead files None = Unit {0}
-BelowIsRead files (Some proof) = (version : Version) × (file files (name_of OpenNone) ≡ Some (certificate_text version (NoRoster proof)))
+BelowIsRead files (Some proof) =
+    (version : Version) × (file files (name_of OpenNone) ≡ Some (certificate_text version (NoRoster proof)))
+    × (is_sayable version (NoRoster proof) ≡ true)
 
 -- The eight inputs name a problem, and the roster's file is the text of a roster of its month with so many vacant lines. So
 -- many are needed, and no lesser number is enough. The roster is complete, these are its scores, and no complete roster of
@@ -52,6 +55,7 @@ pub record OpenStands (files : Files) (count : ℕ) (scores : List ℕ) : Type 0
   pub awarded : Awarded
   pub version : Version
   pub certificate_file : file files (name_of OpenCertificate) ≡ Some (certificate_text version (Award awarded))
+  pub sayable : is_sayable version (Award awarded) ≡ true
   pub reasons : List Denial
   pub reasons_file : file files (name_of OpenReasons) ≡ Some (reasons_text made reasons)
   pub judged : IsOpenAward problem count below roster reasons awarded

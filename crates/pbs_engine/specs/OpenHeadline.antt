@@ -4,8 +4,7 @@ use Rattle.std.specs.Prelude.{◌≡◌, ◌≢◌, ℕ, ◌+◌, ◌<◌, ◌�
 use Rattle.shelf.specs.Files.{Files, file}
 use Rattle.shelf.specs.Logs.{Entries}
 use Rattle.shelf.specs.Puts.{with_piece}
-use Rattle.cert_text.specs.Spelling.{certificate_text}
-use Rattle.cert_text.specs.declared.version.Version.TheVariants.{Two}
+use Rattle.cert_text.specs.Spelling.{written_text}
 use Rattle.month_commands.specs.Award.{OfMonth}
 use Rattle.month_files.specs.FileNames.{name_of, limit_of}
 use Rattle.month_files.specs.Handing.{FromReads}
@@ -68,7 +67,7 @@ pub record IsUnopenable (problem made : Problem) (most nodes entries : ℕ) (pro
 -- the file of the proof that one vacant line less is not enough, which is written where there is one
 abbrev pub BelowIsWritten : Files → Files → Option (List Item) → Type 0
 BelowIsWritten old new None = file new (name_of OpenNone) ≡ file old (name_of OpenNone)
-BelowIsWritten old new (Some proof) = file new (name_of OpenNone) ≡ Some (certificate_text Two (form.NoRoster proof))
+BelowIsWritten old new (Some proof) = file new (name_of OpenNone) ≡ Some (written_text (form.NoRoster proof))
 
 -- all other files are as they were
 abbrev pub OthersAreKept : Files → Files → Type 0
@@ -86,12 +85,12 @@ pub record OpenIsWritten (old new : Files) (most nodes count entries : ℕ) (sco
   pub awarded : Awarded
   pub found : IsOpenedMonth problem made most nodes count entries scores rows below roster reasons awarded
   pub below_file : BelowIsWritten old new below
-  pub certificate_file : file new (name_of OpenCertificate) ≡ Some (certificate_text Two (form.Award awarded))
+  pub certificate_file : file new (name_of OpenCertificate) ≡ Some (written_text (form.Award awarded))
   pub reasons_file : file new (name_of OpenReasons) ≡ Some (reasons_text made reasons)
   pub roster_file : file new (name_of OpenRoster) ≡ Some (roster_text made roster)
   pub others : OthersAreKept old new
   pub accepted : HasShown new count scores
-  pub certificate_fits : length (certificate_text Two (form.Award awarded)) ≤ limit_of OpenCertificate
+  pub certificate_fits : length (written_text (form.Award awarded)) ≤ limit_of OpenCertificate
   pub reasons_fits : length (reasons_text made reasons) ≤ limit_of OpenReasons
   pub roster_fits : length (roster_text made roster) ≤ limit_of OpenRoster
 
@@ -100,9 +99,9 @@ pub record UnopenableIsWritten (old new : Files) (most nodes entries : ℕ) (pro
   pub made : Problem
   pub proof : List Item
   pub found : IsUnopenable problem made most nodes entries proof
-  pub proof_file : file new (name_of OpenNone) ≡ Some (certificate_text Two (form.NoRoster proof))
+  pub proof_file : file new (name_of OpenNone) ≡ Some (written_text (form.NoRoster proof))
   pub others : (name : List ℕ) → name ≢ name_of OpenNone → file new name ≡ file old name
-  pub proof_fits : length (certificate_text Two (form.NoRoster proof)) ≤ limit_of OpenNone
+  pub proof_fits : length (written_text (form.NoRoster proof)) ≤ limit_of OpenNone
 
 -- ---- at the end of a run
 

@@ -141,6 +141,7 @@ module _ (problem : Problem) (most nodes entries : ℕ) (few : nodes ≤ 20000) 
       needs = is.needs;
       fewest = is.fewest;
       award = is.award;
+      settled = is.settled;
       says = says;
       ledger = record { book = book; run = is.run; counted = counted };
       room = omega (arith, counted, is.room, is.run.run.cap);

@@ -15,8 +15,7 @@ use Rattle.roster_model.specs.Rosters.{scores_of}
 use Rattle.roster_model.specs.Splits.{splits_in, all_splits, shown_splits}
 use Rattle.branch_log.specs.Book.{Book}
 use Rattle.cert_text.specs.Reading.{certificate_in}
-use Rattle.cert_text.specs.Spelling.{certificate_text}
-use Rattle.cert_text.specs.declared.version.Version.TheVariants.{Two}
+use Rattle.cert_text.specs.Spelling.{written_text}
 use Rattle.month_files.specs.declared.fault.BadInput.{BadInput}
 use Rattle.month_files.specs.declared.fault.BadInput.TheVariants as bad
 use Rattle.month_files.specs.declared.fault.InputFault.{InputFault}
@@ -33,7 +32,7 @@ use Rattle.roster_text.specs.ReasonText.{reasons_text, IsReason}
 use Rattle.roster_text.specs.RosterText.{roster_text, IsRoster}
 use Rattle.open_time.specs.declared.fault.OpenFault.{OpenFault}
 use Rattle.open_time.specs.declared.fault.OpenFault.TheVariants as fault
-use Rattle.open_time.specs.Opened.{IsRunWith}
+use Rattle.open_time.specs.Opened.{IsRunWith, IsSettledWith}
 use Rattle.open_time.specs.Refuted.{IsRefutedWith, IsOpenAward}
 use Rattle.open_time.specs.Vacant.{HasRoomFor, IsWithVacant, IsOpenFault, IsUnfilledBelow, IsUnfilledUnder, NeedsVacant}
 use Rattle.plan_commands.specs.declared.open_stop.OpenFinding.{OpenFinding}
@@ -49,7 +48,7 @@ use Rattle.plan_commands.specs.OpenRows.{AreOpenRows}
 -- ---- the files that say what is found
 
 abbrev pub certificate_draft : File → Certificate → Draft
-certificate_draft file certificate = record { file = file; bytes = certificate_text Two certificate }
+certificate_draft file certificate = record { file = file; bytes = written_text certificate }
 
 -- the proof that one vacant line less is not enough, if there is one
 abbrev pub none_drafts : Option (List Item) → List Draft
@@ -70,8 +69,8 @@ award_drafts made awarded reasons roster =
 
 -- the certificate's text is read as the certificate, and within the limit of its file
 pub record IsReadable (file : File) (certificate : Certificate) : Type 0 where
-  pub again : certificate_in (certificate_text Two certificate) ≡ Ok certificate
-  pub fits : length (certificate_text Two certificate) ≤ limit_of file
+  pub again : certificate_in (written_text certificate) ≡ Ok certificate
+  pub fits : length (written_text certificate) ≤ limit_of file
 
 -- the same of reasons and of a roster
 pub record AreReadableReasons (made : Problem) (reasons : List Denial) : Type 0 where
@@ -106,7 +105,8 @@ pub record SaysAward (problem : Problem) (count : ℕ) (below : Option (List Ite
   pub roster_readable : IsReadableRoster made roster
 
 -- As many vacant lines as were asked for can be added. So many are needed, no more than that, and no lesser number is
--- enough; the award with them is accepted, with the proof that one less is not enough; and it is said so.
+-- enough; the award with them is accepted, with the proof that one less is not enough; no pairing can go from a vacant line to a
+-- member so that all lines stay legal and each score what it is; and it is said so.
 pub record FindsOpen (problem : Problem) (most nodes count : ℕ) (scores : List ℕ) (rows : List OpenRow) (entries : ℕ) (drafts : List Draft) : Type 0 where
   pub below : Option (List Item)
   pub roster : List (List ℕ)
@@ -117,6 +117,7 @@ pub record FindsOpen (problem : Problem) (most nodes count : ℕ) (scores : List
   pub needs : NeedsVacant problem count
   pub fewest : IsUnfilledUnder problem count
   pub award : IsOpenAward problem count below roster reasons awarded
+  pub settled : IsSettledWith problem count roster
   pub says : SaysAward problem count below roster reasons awarded scores rows drafts
   pub ledger : HasLedgerWith problem count nodes entries
   pub room : entries < nodes

@@ -13,7 +13,6 @@ ghost use Rattle.roster_text.specs.ReasonWords.{member_named};
 ghost use Rattle.roster_text.specs.RosterText.{member_name};
 ghost use Rattle.shelf.specs.Files.{Files};
 ghost use Rattle.shelf.specs.Logs.{Entries};
-ghost use Rattle.weight_certificates.specs.Setup.{IsMadeFor};
 ghost use Rattle.what_if.specs.Reused.{AgreeBut};
 ghost use Rattle.plan_commands.specs.Asking.{Asked, asked_in, claimed_in, again_draft, IsReadableRoster, IsQuestion, IsUnasked, IsStanding, IsUnclaimed, IsFirstOther, FindsAgain, IsMiss, IsClaimEnd, IsAskedIn, HasWhatIf, IsRun, IsRunHanded, asking_order};
 ghost use Rattle.plan_commands.specs.AskingEnds.{AskingCause, whatif_written};
@@ -23,7 +22,7 @@ use crate::asking_stop::{Unasked, WhatIf, WhatIfStop};
 use award_loop::Outcome;
 use bid_language::read_bids;
 use bid_score::scores_of;
-use branch_log::Ledger;
+use branch_log::{FreshCloser, Ledger};
 use cert_checker::{Noted, judge_noting};
 use cert_text::read_certificate;
 use duty_calendar::{Copied, List, Memory};
@@ -32,7 +31,6 @@ use roster_model::{Awarded, Bid, Certificate, Problem, Roster};
 use roster_text::{print_roster, read_reasons, read_roster};
 use shelf::Shelf;
 use std::alloc::Global;
-use weight_certificates::Rounds;
 use what_if::what_if;
 
 /// How many rounds of lines show that a node is open.
@@ -246,16 +244,16 @@ fn said(alloc: Global, problem: &Problem, roster: &Roster, nodes: u32) -> Result
 }
 
 /// A closer that has learned from the award, and knows the lines that were noted.
-fn learned(
+fn learned<C: FreshCloser>(
     alloc: Global,
     question: &Question,
     roster: &Roster,
     noted: &[Noted],
-) -> Result<Rounds, Memory>
-    ensures rounds { IfOk result (λ made. made.rounds ≡ 400) }
-    ensures fits { IfOk result (λ made. IsMadeFor made question.now.other) }
+) -> Result<C, Memory>
+    ensures rounds { IfOk result (λ made. C.rounds made ≡ 400) }
+    ensures fits { IfOk result (λ made. C.fits made question.now.other) }
 {
-    let mut closer = Rounds::new(alloc, &question.other, ROUNDS)?;
+    let mut closer = C::new(alloc, &question.other, ROUNDS)?;
     closer.learn(alloc, &question.other, roster, &question.awarded)?;
     for one in noted {
         closer.offer(alloc, &question.other, one.member, &one.line)?;
@@ -264,7 +262,7 @@ fn learned(
 }
 
 /// The award with the other bids, with so many nodes at most; the proofs of more senior places are those of the award.
-fn again(
+fn again<C: FreshCloser>(
     alloc: Global,
     question: &Question,
     roster: &Roster,
@@ -277,7 +275,7 @@ fn again(
     ensures found { IfOk result (FindsAgain question.now roster.now nodes) }
     ensures miss { IfErr result (IsMiss question.now nodes) }
 {
-    let mut closer = learned(alloc, question, roster, noted)?;
+    let mut closer = learned::<C>(alloc, question, roster, noted)?;
     let mut ledger = Ledger::new(alloc, nodes, ROUNDS)?;
     match what_if(
         alloc,
@@ -296,7 +294,7 @@ fn again(
 }
 
 /// What comes of a question, over the roster and the reasons of its award; nothing is written.
-fn answer(
+fn answer<C: FreshCloser>(
     alloc: Global,
     question: &Question,
     claimed: &ClaimedTexts,
@@ -314,7 +312,7 @@ fn answer(
         let name = name_of(alloc, &question.problem, other)?;
         return Err(WhatIfStop::No(Unasked::Bids(name)));
     }
-    again(alloc, question, &roster, noted.as_slice(), nodes)
+    again::<C>(alloc, question, &roster, noted.as_slice(), nodes)
 }
 
 /// Writes the roster with the other bids.
@@ -334,7 +332,7 @@ fn write_again<S: Shelf>(alloc: Global, shelf: &mut S, found: WhatIf) -> Result<
 }
 
 /// What comes of a question, over the files of its award.
-fn follow<S: Shelf>(
+fn follow<C: FreshCloser, S: Shelf>(
     alloc: Global,
     shelf: &mut S,
     question: &Question,
@@ -352,7 +350,7 @@ fn follow<S: Shelf>(
         → IsRunHanded old (S.log shelf.new) name nodes result }
 {
     let claimed = read_claimed(alloc, shelf)?;
-    match answer(alloc, question, &claimed, nodes) {
+    match answer::<C>(alloc, question, &claimed, nodes) {
         Ok(found) => write_again(alloc, shelf, found),
         Err(stop) => Err(stop),
     }
@@ -360,7 +358,7 @@ fn follow<S: Shelf>(
 
 /// Awards the month in the folder once more, with the other bids of the member of this name and with so many nodes at
 /// most, and writes the roster.
-pub fn whatif<S: Shelf>(
+pub fn whatif<C: FreshCloser, S: Shelf>(
     alloc: Global,
     shelf: &mut S,
     name: &[u8],
@@ -373,7 +371,7 @@ pub fn whatif<S: Shelf>(
 {
     let texts = read_asked(alloc, shelf)?;
     match ask(alloc, &texts, name) {
-        Ok(question) => follow(alloc, shelf, &question, nodes),
+        Ok(question) => follow::<C, S>(alloc, shelf, &question, nodes),
         Err(stop) => Err(stop),
     }
 }

@@ -2,8 +2,6 @@
 ghost use Rattle.std.specs.Prelude.{◌≡◌, ◌+◌, ◌≤◌, ◌++◌, ◌∷◌, [], ℕ, Ok, IfOk, OnOk, All, length};
 ghost use Rattle.std.specs.Option.{ForSome};
 ghost use Rattle.cert_text.specs.Reading.{certificate_in};
-ghost use Rattle.cert_text.specs.Spelling.{certificate_text};
-ghost use Rattle.cert_text.specs.declared.version.Version.TheVariants.{Two};
 ghost use Rattle.month_award.specs.Months.{IsWritable};
 ghost use Rattle.month_files.specs.FileNames.{limit_of};
 ghost use Rattle.month_files.specs.Handing.{FromReads};
@@ -17,7 +15,6 @@ ghost use Rattle.roster_model.specs.declared.award.Certificate.TheVariants.{NoRo
 ghost use Rattle.roster_text.specs.ReasonText.{reasons_text, most_reasons};
 ghost use Rattle.shelf.specs.Files.{Files};
 ghost use Rattle.shelf.specs.Logs.{Entries};
-ghost use Rattle.weight_certificates.specs.Setup.{IsMadeFor};
 ghost use Rattle.open_time.specs.Opened.{IsOpened};
 ghost use Rattle.open_time.specs.Refuted.{IsOpenAward};
 ghost use Rattle.open_time.specs.Vacant.{HasRoomFor, IsWithVacant};
@@ -27,6 +24,7 @@ ghost use Rattle.plan_commands.specs.OpeningEnds.{OpenCause, open_written};
 use crate::open_rows::{add, open_rows};
 use crate::open_stop::{OpenFinding, OpenMiss, OpenRow, OpenStop, Opening};
 use bid_score::scores_of;
+use branch_log::FreshCloser;
 use cert_text::print_certificate;
 use duty_calendar::{List, Memory};
 use month_files::{Draft, File, read_month, read_texts, write_all};
@@ -35,7 +33,6 @@ use roster_model::{Awarded, Certificate, Problem, Proof, Reasons, Roster};
 use roster_text::{print_reasons, print_roster};
 use shelf::Shelf;
 use std::alloc::Global;
-use weight_certificates::Rounds;
 
 /// How many rounds of lines show that a node is open.
 const ROUNDS: u32 = 400;
@@ -183,15 +180,20 @@ fn say(
 }
 
 /// What comes of the search for the fewest vacant lines, by rounds, with so many nodes at most for each number.
-fn find(alloc: Global, problem: &Problem, most: u32, nodes: u32) -> Result<OpenFinding, OpenMiss>
+fn find<C: FreshCloser>(
+    alloc: Global,
+    problem: &Problem,
+    most: u32,
+    nodes: u32,
+) -> Result<OpenFinding, OpenMiss>
     requires most { most ≤ 50 }
     requires few { nodes ≤ 20000 }
     ensures end { IsOpenEnd problem.now most nodes result }
 {
-    let make = |month: &Problem| -> Result<Rounds, Memory>
-        ensures rounds { IfOk result (λ closer. closer.rounds ≡ 400) }
-        ensures fits { IfOk result (λ closer. IsMadeFor closer month.now) }
-    { Rounds::new(alloc, month, ROUNDS) };
+    let make = |month: &Problem| -> Result<C, Memory>
+        ensures rounds { IfOk result (λ closer. C.rounds closer ≡ 400) }
+        ensures fits { IfOk result (λ closer. C.fits closer month.now) }
+    { C::new(alloc, month, ROUNDS) };
     match fewest(alloc, problem, most, nodes, make) {
         Ok(opened) => say(alloc, problem, most, nodes, opened),
         Err(OpenFault::NoMemory) => Err(OpenMiss::NoMemory),
@@ -222,7 +224,7 @@ fn write_found<S: Shelf>(
 
 /// Finds the fewest vacant lines, up to so many, with which the crew in the folder can fly the month, with so many nodes at
 /// most for each number, and writes the award with them.
-pub fn open_lines<S: Shelf>(
+pub fn open_lines<C: FreshCloser, S: Shelf>(
     alloc: Global,
     shelf: &mut S,
     most: u32,
@@ -237,6 +239,6 @@ pub fn open_lines<S: Shelf>(
 {
     let texts = read_texts(alloc, shelf)?;
     let problem = read_month(alloc, &texts)?;
-    let finding = find(alloc, &problem, most, nodes)?;
+    let finding = find::<C>(alloc, &problem, most, nodes)?;
     write_found(alloc, shelf, finding)
 }

@@ -16,11 +16,8 @@ pub(crate) type Asked = (
 /// The roster where the junior member would rather have days off.
 const DAYS_OFF: &str = "member,pairings,credit,score\nM1,P1,5:00,10\nM2,,0:00,10\n";
 
-/// The roster where the senior member would rather have days off.
-const GIVEN: &str = "member,pairings,credit,score\nM1,,0:00,10\nM2,P1,5:00,10\n";
-
 /// Bids that are answered.
-pub(crate) const ANSWERED: [Asked; 5] = [
+pub(crate) const ANSWERED: [Asked; 4] = [
     (
         &[],
         &["whatif", "M2"],
@@ -34,16 +31,6 @@ pub(crate) const ANSWERED: [Asked; 5] = [
         Status::Done,
         "whatif\nvector 10 10\nnodes 0\n",
         Some(DAYS_OFF),
-    ),
-    (
-        &[(
-            "bids2.txt",
-            "member M1\n10 daysoff 30\nmember M2\n10 fly P1\n",
-        )],
-        &["whatif", "--nodes=20000", "M1"],
-        Status::Done,
-        "whatif\nvector 10 10\nnodes 0\n",
-        Some(GIVEN),
     ),
     (
         &[("bids2.txt", "member M1\n10 fly P1\nmember M2\n10 fly P1\n")],

@@ -3,9 +3,11 @@
 use crate::seniority::{File, MONTH};
 use duty_calendar::List;
 use pbs_engine::{Status, run};
+use plain_guide::PlainGuide;
 use shelf::{MemoryShelf, MemorySink};
 use std::alloc::Global;
 use std::process::Abort;
+use weight_certificates::Rounds;
 
 /// What a run printed, and how it ended.
 #[derive(Drop)]
@@ -60,7 +62,7 @@ pub(crate) fn run_over(
     let words = words_of(rt, alloc, words);
     let failing = failing.to_vec(alloc).expect(rt, "memory");
     let mut out = MemorySink::new(alloc, List::from_vec(failing));
-    let status = run(alloc, &words, shelf, &mut out);
+    let status = run::<Rounds<PlainGuide>, _, _>(alloc, &words, shelf, &mut out);
     let bytes = out.bytes().to_vec(alloc).expect(rt, "memory");
     Outcome {
         status,

@@ -19,26 +19,6 @@ pub(crate) const THREE_WANTED: [File; 2] = [
     ("bids.txt", ""),
 ];
 
-/// The same, and a second pairing, which neither wants and each could fly.
-const UNWANTED: [File; 4] = [
-    (
-        "pairings.csv",
-        "pairing,need,credit\nP1,3,5:00\nP2,1,5:00\n",
-    ),
-    (
-        "duties.csv",
-        "pairing,no,report,parked,release,layover\nP1,1,2026-06-10T08:00Z,2026-06-10T14:00Z,2026-06-10T14:30Z,\nP2,1,2026-06-20T08:00Z,2026-06-20T14:00Z,2026-06-20T14:30Z,\n",
-    ),
-    (
-        "legs.csv",
-        "pairing,no,from,to,out,in\nP1,1,DUB,LHR,2026-06-10T09:00Z,2026-06-10T13:00Z\nP2,1,DUB,LHR,2026-06-20T09:00Z,2026-06-20T13:00Z\n",
-    ),
-    (
-        "bids.txt",
-        "member M1\n10 avoid pairing P2\nmember M2\n10 avoid pairing P2\n",
-    ),
-];
-
 /// The senior member has the name of a vacant line, or the junior one.
 const NAMED_FIRST: [File; 3] = [
     ("pairings.csv", "pairing,need,credit\nP1,3,5:00\n"),
@@ -83,13 +63,7 @@ const BRANCHING: [File; 5] = [
     ),
 ];
 
-/// The files of an award without a vacant line, those of one with some, and that of no roster.
-const COVERED: [&str; 3] = [
-    "open-certificate.txt",
-    "open-reasons.txt",
-    "open-roster.csv",
-];
-
+/// The files of an award with vacant lines, and that of no roster.
 const FOUR: [&str; 4] = [
     "open-none.txt",
     "open-certificate.txt",
@@ -100,7 +74,7 @@ const FOUR: [&str; 4] = [
 const NONE: [&str; 1] = ["open-none.txt"];
 
 /// Months that are opened.
-pub(crate) const OPENED: [Opened; 7] = [
+pub(crate) const OPENED: [Opened; 4] = [
     (
         &THREE_WANTED,
         &["open", "0"],
@@ -121,27 +95,6 @@ pub(crate) const OPENED: [Opened; 7] = [
         Status::Done,
         "open 1\nvector 0 0 0\nnodes 0\nopen P1 1\n",
         &FOUR,
-    ),
-    (
-        &UNWANTED,
-        &["open", "50", "--nodes=20000"],
-        Status::Done,
-        "open 1\nvector 10 10 0\nnodes 0\nopen P1 1\nopen P2 1 M1 M2\n",
-        &FOUR,
-    ),
-    (
-        &[],
-        &["open", "0"],
-        Status::Done,
-        "open 0\nvector 10 0\nnodes 0\n",
-        &COVERED,
-    ),
-    (
-        &[],
-        &["open", "5"],
-        Status::Done,
-        "open 0\nvector 10 0\nnodes 0\n",
-        &COVERED,
     ),
     (
         &NAMED,

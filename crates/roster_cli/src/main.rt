@@ -1,12 +1,14 @@
 //! The program `pbs FOLDER WORDS`: the files of a folder, and standard output.
 #![tactic(auto)]
 
+use node_guesses::MixGuide;
 use pbs_engine::{Status, run};
 use shelf::{FolderShelf, OutSink};
 use std::alloc::AllocError;
 use std::process::ExitCode;
 use std::rt::Env;
 use std::{env, io};
+use weight_certificates::Rounds;
 
 /// The words behind the program's own name, or none where one of them is not UTF-8.
 fn command_line(rt: &(impl Env + AllocGlobal)) -> Result<Vec<String>, AllocError> {
@@ -42,5 +44,6 @@ fn main(rt: HostRuntime) -> ExitCode {
     };
     let mut shelf = FolderShelf::new(&rt, folder);
     let mut out = OutSink::new(io::writer(&rt));
-    ExitCode::from(run(rt.alloc(), &words, &mut shelf, &mut out).code())
+    let status = run::<Rounds<MixGuide>, _, _>(rt.alloc(), &words, &mut shelf, &mut out);
+    ExitCode::from(status.code())
 }

@@ -209,7 +209,7 @@ pub fn relax(
     Ok(relaxed)
 }
 
-/// The relaxation.
+/// The relaxation, of which no weights are remembered.
 fn relaxation(
     alloc: Global,
     problem: &Problem,

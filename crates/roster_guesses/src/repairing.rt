@@ -29,7 +29,7 @@ enum Attempt {
     Open,
 }
 
-/// The members that are free, and how many there are.
+/// The members that are free.
 #[derive(Drop)]
 struct Free {
     members: Vec<usize>,

@@ -1,9 +1,10 @@
 //! Months with vacant lines, and who may fly what.
 
-use crate::june::{empty_line, flown_line, flying, member, month, one, pairing, rules, two};
+use crate::june::{alone, empty_line, flown_line, flying, member, month, one, pairing, rules, two};
 use duty_calendar::List;
-use open_time::{OpenFault, eligible, with_vacant};
-use roster_model::Problem;
+use line_legality::complete;
+use open_time::{OpenFault, eligible, settled, with_vacant};
+use roster_model::{Bid, Problem, Roster, Wish};
 use std::alloc::Global;
 use std::process::Abort;
 
@@ -54,4 +55,45 @@ fn who_is_idle_may_fly(rt: HostRuntime) {
     assert_eq!(rt; made.base.pairings.len(), 1);
     assert_eq!(rt; eligible(alloc, &made, &roster, 0, 0), Ok(true));
     assert_eq!(rt; eligible(alloc, &made, &roster, 1, 0), Ok(false));
+}
+
+/// The month of one member who bids for all its days off, and of one pairing.
+fn resting(rt: &impl Abort, alloc: Global) -> Problem {
+    let bid = Bid {
+        weight: 10,
+        wish: Wish::DaysOff(30),
+    };
+    let rules = rules(rt, 10);
+    let pairings = one(rt, alloc, pairing(rt, alloc));
+    alone(rt, alloc, rules, pairings, one(rt, alloc, bid))
+}
+
+/// What is left where the vacant line has the pairing and the member nothing.
+fn left_of(rt: &impl Abort, alloc: Global, problem: &Problem) -> Roster {
+    let made = with_vacant(alloc, problem, 1).expect(rt, "a vacant line");
+    let roster = two(rt, alloc, empty_line(rt, alloc), flown_line(rt, alloc));
+    assert_eq!(rt; made.base.members.len(), 2);
+    assert_eq!(rt; made.base.pairings.len(), 1);
+    assert!(rt; complete(alloc, &made, &roster).is_ok());
+    settled(alloc, &made, 1, roster).expect(rt, "memory")
+}
+
+#[test]
+fn who_can_take_a_pairing_has_it_then(rt: HostRuntime) {
+    let alloc = rt.alloc();
+    let problem = flying(&rt, alloc);
+    assert_eq!(rt;
+        left_of(&rt, alloc, &problem),
+        two(&rt, alloc, flown_line(&rt, alloc), empty_line(&rt, alloc))
+    );
+}
+
+#[test]
+fn a_score_keeps_a_pairing_where_it_is(rt: HostRuntime) {
+    let alloc = rt.alloc();
+    let problem = resting(&rt, alloc);
+    assert_eq!(rt;
+        left_of(&rt, alloc, &problem),
+        two(&rt, alloc, empty_line(&rt, alloc), flown_line(&rt, alloc))
+    );
 }

@@ -8,7 +8,7 @@ Rose before now = min (before + 1) (2 ^ 64 - 1) ≤ now
 
 -- before the first fault
 abbrev pub no_faults : Tally
-no_faults = record { faults = 0; fails = 0; misses = 0; longs = 0; last = record { items = [] } }
+no_faults = record { faults = 0; fails = 0; misses = 0; longs = 0; wants = 0; last = record { items = [] } }
 
 -- a read failed: its count rose, the name was kept, and the rest of the tally is as before
 pub record ReadFails (name : List ℕ) (old new : Tally) : Type 0 where
@@ -33,3 +33,9 @@ pub record FindsLong (name : List ℕ) (old new : Tally) : Type 0 where
   pub later : old.longs ≤ new.longs
   pub rose : Rose old.longs new.longs
   pub rest : new ≡ record old { longs = new.longs; last = record { items = name } }
+
+-- an allocation of the call failed
+pub record Wants (name : List ℕ) (old new : Tally) : Type 0 where
+  pub later : old.wants ≤ new.wants
+  pub rose : Rose old.wants new.wants
+  pub rest : new ≡ record old { wants = new.wants; last = record { items = name } }

@@ -1,10 +1,8 @@
 //! What a shelf and a sink answer where they do not do what was asked.
-ghost use Rattle.shelf.specs.declared.fault.ShelfFault.TheVariants.{NoMemory};
 ghost use Rattle.shelf.specs.declared.fault.SinkFault.TheVariants.{NoMemory as NoRoom};
 ghost use Rattle.std.specs.Prelude.{◌≡◌};
 
-use duty_calendar::Memory;
-use std::alloc::{AllocError, AllocFailed};
+use std::alloc::AllocError;
 use thiserror::Error;
 
 /// Why a shelf did not read or write a file.
@@ -25,30 +23,6 @@ pub enum ShelfFault {
     /// Code 0. After a write, what the file holds is not known.
     #[error("out of memory")]
     NoMemory,
-}
-
-impl From<AllocError> for ShelfFault {
-    ghost from_gives = { λ _ e. e ≡ NoMemory };
-
-    fn from(_: AllocError) -> Self {
-        ShelfFault::NoMemory
-    }
-}
-
-impl<T: Drop> From<AllocFailed<T>> for ShelfFault {
-    ghost from_gives = { λ _ e. e ≡ NoMemory };
-
-    fn from(_: AllocFailed<T>) -> Self {
-        ShelfFault::NoMemory
-    }
-}
-
-impl From<Memory> for ShelfFault {
-    ghost from_gives = { λ _ e. e ≡ NoMemory };
-
-    fn from(_: Memory) -> Self {
-        ShelfFault::NoMemory
-    }
 }
 
 /// Why a sink did not take a whole piece.

@@ -1,10 +1,10 @@
 //! The files of a folder.
-ghost use Rattle.std.specs.Prelude.{◌≡◌, [], None};
+ghost use Rattle.std.specs.Prelude.{◌≡◌, ◌≤◌, [], None, IfOk, vec_len};
 ghost use Rattle.shelf.specs.Tallies.{no_faults};
 
 use crate::fault::ShelfFault;
 use crate::log::Log;
-use crate::replace::{replace, write_through};
+use crate::replace::{Unplaced, place};
 use crate::streams::{Unread, read_rest};
 use crate::tally::Tally;
 use crate::traits::Shelf;
@@ -13,8 +13,10 @@ use std::fs::Files;
 use std::io::ErrorKind;
 use std::{fs, io};
 
-/// Reads and writes the files of one folder. It tells nothing of what they hold. A plain file is replaced when its new
-/// bytes lie whole beside it, under its name and `.new`: a stop in the middle leaves the old bytes or the new ones.
+/// Reads and writes the files of one folder. It tells nothing of what they hold. A file's new bytes take its place when they
+/// lie whole beside it, under its name and `.new`, or that and a number where a file is there: a stop in the middle leaves
+/// the old bytes or the new ones. No write follows a link, and none changes what is no plain file and no link to anything.
+/// No read waits: what is no plain file, nor a link to one, fails.
 #[derive(Drop)]
 pub struct FolderShelf<'a, R> {
     files: &'a R,
@@ -47,25 +49,40 @@ impl<'a, R: Files> FolderShelf<'a, R> {
         format!(in alloc; "{}/{}", self.folder, name)
     }
 
-    // Gives what lies there these bytes.
-    fn fill(&self, path: &str, beside: &str, bytes: &[u8]) -> io::Result<()> {
-        match fs::symlink_metadata(self.files, path) {
-            Ok(found) if found.is_file() => {
-                replace(self.files, path, beside, Some(found.permissions()), bytes)
-            }
-            Err(error) if error.kind() == ErrorKind::NotFound => {
-                replace(self.files, path, beside, None, bytes)
-            }
-            _ => write_through(self.files, path, bytes),
-        }
+    // The bytes of the named file, if they are at most `limit`.
+    fn bytes_of(&self, alloc: Global, name: &str, limit: u64) -> Result<Vec<u8>, Unread>
+        ensures limit { IfOk result (λ bytes. vec_len bytes ≤ limit) }
+    {
+        let path = self.path(alloc, name)?;
+        let mut file = open_plain(self.files, path.as_str())?;
+        read_rest(alloc, &mut file, limit)
+    }
+
+    // Makes the named file one of these bytes.
+    fn put(&self, alloc: Global, name: &str, bytes: &[u8]) -> Result<(), Unplaced> {
+        let path = self.path(alloc, name)?;
+        place(alloc, self.files, path.as_str(), bytes)
     }
 }
 
 // Why a file was not opened.
-fn unopened(error: io::Error) -> Unread {
+fn unopened(error: &io::Error) -> Unread {
     match error.kind() {
         ErrorKind::NotFound => Unread::Missing,
         _ => Unread::Failed,
+    }
+}
+
+// Opens a plain file, or a link to one, for reading. To open a FIFO would wait for a writer.
+fn open_plain<R: Files>(files: &R, path: &str) -> Result<R::File, Unread> {
+    match fs::metadata(files, path) {
+        Ok(found) if found.is_file() => {}
+        Ok(_) => return Err(Unread::Failed),
+        Err(error) => return Err(unopened(&error)),
+    }
+    match fs::open(files, path) {
+        Ok(file) => Ok(file),
+        Err(error) => Err(unopened(&error)),
     }
 }
 
@@ -79,17 +96,15 @@ impl<R: Files> Shelf for FolderShelf<'_, R> {
     ghost log = { log_of };
 
     fn read(&mut self, alloc: Global, name: &str, limit: u64) -> Result<Vec<u8>, ShelfFault> {
-        let path = self.path(alloc, name)?;
-        let read = match fs::open(self.files, path.as_str()) {
-            Ok(mut file) => read_rest(alloc, &mut file, limit),
-            Err(error) => Err(unopened(error)),
-        };
-        match read {
+        match self.bytes_of(alloc, name, limit) {
             Ok(bytes) => {
                 self.log.note(name.as_bytes(), &bytes);
                 Ok(bytes)
             }
-            Err(Unread::NoMemory) => Err(ShelfFault::NoMemory),
+            Err(Unread::NoMemory) => {
+                self.tally.wanted(name);
+                Err(ShelfFault::NoMemory)
+            }
             Err(Unread::Missing) => {
                 self.tally.missed(name);
                 Err(ShelfFault::Missing)
@@ -106,11 +121,13 @@ impl<R: Files> Shelf for FolderShelf<'_, R> {
     }
 
     fn write(&mut self, alloc: Global, name: &str, bytes: &[u8]) -> Result<(), ShelfFault> {
-        let path = self.path(alloc, name)?;
-        let beside = format!(in alloc; "{}.new", path)?;
-        match self.fill(path.as_str(), beside.as_str(), bytes) {
+        match self.put(alloc, name, bytes) {
             Ok(()) => Ok(()),
-            Err(_) => {
+            Err(Unplaced::NoMemory) => {
+                self.tally.wanted(name);
+                Err(ShelfFault::NoMemory)
+            }
+            Err(Unplaced::Failed) => {
                 self.tally.write_failed(name);
                 Err(ShelfFault::WriteFailed)
             }
@@ -121,6 +138,7 @@ impl<R: Files> Shelf for FolderShelf<'_, R> {
 #[cfg(test)]
 mod tests {
     use super::*;
+    use std::os::unix::fs::symlink;
     use std::test::Fail;
 
     // A test begins in an empty folder.
@@ -150,9 +168,66 @@ mod tests {
         );
         let tally = &shelf.tally;
         assert_eq!(rt;
-            (tally.faults, tally.fails, tally.misses, tally.longs),
-            (1, 1, 2, 1)
+            (
+                tally.faults,
+                tally.fails,
+                tally.misses,
+                tally.longs,
+                tally.wants
+            ),
+            (1, 1, 2, 1, 0)
         );
+        Ok(())
+    }
+
+    #[test]
+    fn leaves_what_lies_beside(rt: HostRuntime) -> Result<(), Fail> {
+        let alloc = rt.alloc();
+        let mut shelf = FolderShelf::new(&rt, String::new(alloc));
+        shelf.write(alloc, "a.new", b"mine")?;
+        symlink(&rt, "nowhere", "a.new1")?;
+        shelf.write(alloc, "a", b"1")?;
+        shelf.write(alloc, "a", b"2")?;
+        assert_eq!(rt; shelf.read(alloc, "a", 9)?.as_slice(), b"2".as_slice());
+        assert_eq!(rt;
+            shelf.read(alloc, "a.new", 9)?.as_slice(),
+            b"mine".as_slice()
+        );
+        assert_eq!(rt;
+            shelf.read(alloc, "nowhere", 9).err(),
+            Some(ShelfFault::Missing)
+        );
+        assert_eq!(rt;
+            shelf.read(alloc, "a.new2", 9).err(),
+            Some(ShelfFault::Missing)
+        );
+        Ok(())
+    }
+
+    #[test]
+    fn writes_in_the_place_of_a_link(rt: HostRuntime) -> Result<(), Fail> {
+        let alloc = rt.alloc();
+        let mut shelf = FolderShelf::new(&rt, String::new(alloc));
+        shelf.write(alloc, "b", b"kept")?;
+        symlink(&rt, "b", "a")?;
+        assert_eq!(rt; shelf.read(alloc, "a", 9)?.as_slice(), b"kept".as_slice());
+        shelf.write(alloc, "a", b"1")?;
+        assert_eq!(rt; shelf.read(alloc, "a", 9)?.as_slice(), b"1".as_slice());
+        assert_eq!(rt; shelf.read(alloc, "b", 9)?.as_slice(), b"kept".as_slice());
+        Ok(())
+    }
+
+    #[test]
+    fn reads_no_device(rt: HostRuntime) -> Result<(), Fail> {
+        let alloc = rt.alloc();
+        let mut shelf = FolderShelf::new(&rt, String::new(alloc));
+        symlink(&rt, "/dev/zero", "a")?;
+        assert_eq!(rt;
+            shelf.read(alloc, "a", 9).err(),
+            Some(ShelfFault::ReadFailed)
+        );
+        shelf.write(alloc, "a", b"1")?;
+        assert_eq!(rt; shelf.read(alloc, "a", 9)?.as_slice(), b"1".as_slice());
         Ok(())
     }
 }

@@ -123,7 +123,10 @@ impl Shelf for MemoryShelf {
                 Err(ShelfFault::TooLong)
             }
             Some(bytes) => {
-                let bytes = bytes.to_vec(alloc)?;
+                let Ok(bytes) = bytes.to_vec(alloc) else {
+                    self.tally.wanted(name);
+                    return Err(ShelfFault::NoMemory);
+                };
                 self.log.note(name.as_bytes(), &bytes);
                 Ok(bytes)
             }
@@ -149,7 +152,13 @@ impl Shelf for MemoryShelf {
             self.tally.write_failed(name);
             return Err(ShelfFault::WriteFailed);
         }
-        Ok(self.place(alloc, name, bytes)?)
+        match self.place(alloc, name, bytes) {
+            Ok(()) => Ok(()),
+            Err(_) => {
+                self.tally.wanted(name);
+                Err(ShelfFault::NoMemory)
+            }
+        }
     }
 }
 
@@ -189,8 +198,14 @@ mod tests {
         assert_eq!(rt; shelf.file("b"), Some(b"1".as_slice()));
         let tally = &shelf.tally;
         assert_eq!(rt;
-            (tally.faults, tally.fails, tally.misses, tally.longs),
-            (0, 0, 1, 1)
+            (
+                tally.faults,
+                tally.fails,
+                tally.misses,
+                tally.longs,
+                tally.wants
+            ),
+            (0, 0, 1, 1, 0)
         );
         assert_eq!(rt; tally.last.as_slice(), b"b".as_slice());
         Ok(())
@@ -213,8 +228,14 @@ mod tests {
         shelf.write(alloc, "b", b"3")?;
         let tally = &shelf.tally;
         assert_eq!(rt;
-            (tally.faults, tally.fails, tally.misses, tally.longs),
-            (1, 1, 0, 0)
+            (
+                tally.faults,
+                tally.fails,
+                tally.misses,
+                tally.longs,
+                tally.wants
+            ),
+            (1, 1, 0, 0, 0)
         );
         assert_eq!(rt; tally.last.as_slice(), b"b".as_slice());
         Ok(())

@@ -1,7 +1,7 @@
 //! What has gone wrong at a shelf so far.
 ghost use Rattle.std.specs.Prelude.{◌≡◌};
 ghost use Rattle.shelf.specs.Names.{IsName};
-ghost use Rattle.shelf.specs.Tallies.{no_faults, ReadFails, WriteFails, Misses, FindsLong};
+ghost use Rattle.shelf.specs.Tallies.{no_faults, ReadFails, WriteFails, Misses, FindsLong, Wants};
 
 use arrayvec::ArrayVec;
 
@@ -17,6 +17,8 @@ pub struct Tally {
     pub misses: u64,
     /// Reads of a file with more bytes than the read may give.
     pub longs: u64,
+    /// Reads and writes that found no memory.
+    pub wants: u64,
     /// Empty before the first count rose.
     pub last: ArrayVec<u8, 32>,
 }
@@ -31,6 +33,7 @@ impl Tally {
             fails: 0,
             misses: 0,
             longs: 0,
+            wants: 0,
             last: ArrayVec::new(),
         }
     }
@@ -68,6 +71,15 @@ impl Tally {
         ensures counted { FindsLong name.now self.old self.new }
     {
         self.longs = self.longs.saturating_add(1);
+        self.last = kept(name);
+    }
+
+    /// Counts a read or a write of the named file that found no memory.
+    pub fn wanted(&mut self, name: &str)
+        requires name { IsName name.now }
+        ensures counted { Wants name.now self.old self.new }
+    {
+        self.wants = self.wants.saturating_add(1);
         self.last = kept(name);
     }
 }

@@ -1,11 +1,10 @@
 //! The closer by rounds.
-ghost use Rattle.std.specs.Prelude.{◌≡◌, ◌≤◌, IfOk};
 ghost use Rattle.weight_certificates.specs.Setup.{IsMadeFor};
 
-use crate::closing::close_node;
-use branch_log::{Closer, Verdict};
+use crate::closing::{close_node, test_floor};
+use branch_log::{Closer, FreshCloser, Proposal, Verdict};
+use closer_guide::Guide;
 use duty_calendar::Memory;
-use node_guesses::Guide;
 use roster_model::{Awarded, BidRef, Goal, Line, Node, Problem, Roster};
 use std::alloc::Global;
 use std::marker::Model;
@@ -13,14 +12,14 @@ use std::marker::Model;
 /// Closes nodes of a problem by what its guide guesses, where that passes its test, and else by rounds of heaviest
 /// lines. Contracts see the number of rounds, and those of the members and pairings of the problems that it fits.
 #[derive(Drop)]
-pub struct Rounds {
+pub struct Rounds<G> {
     rounds: u32,
     members: usize,
     pairings: usize,
-    guide: Guide,
+    guide: G,
 }
 
-impl Model for Rounds {
+impl<G> Model for Rounds<G> {
     ghost use Rattle.std.specs.Prelude.{◌≤◌};
     ghost use Rattle.weight_certificates.specs.Setup.{Setup};
 
@@ -31,51 +30,7 @@ impl Model for Rounds {
     ghost invariant = { λ r. (1 ≤ r.rounds) × (r.rounds ≤ 2000) };
 }
 
-impl Rounds {
-    /// A closer for the problem, which shows nodes open by so many rounds, from 1 to 2,000.
-    pub fn new(alloc: Global, problem: &Problem, rounds: u32) -> Result<Rounds, Memory>
-        requires some_rounds { 1 ≤ rounds }
-        requires few_rounds { rounds ≤ 2000 }
-        ensures rounds { IfOk result (λ made. made.rounds ≡ rounds) }
-        ensures fits { IfOk result (λ made. IsMadeFor made problem.now) }
-    {
-        Ok(Rounds {
-            rounds,
-            members: problem.base.members.len(),
-            pairings: problem.base.pairings.len(),
-            guide: Guide::new(alloc, problem)?,
-        })
-    }
-
-    /// Learns from the award of a problem that differs by little, so that the guesses at this one begin with its lines and
-    /// weights. They are tested as ever.
-    pub fn learn(
-        &mut self,
-        alloc: Global,
-        problem: &Problem,
-        roster: &Roster,
-        awarded: &Awarded,
-    ) -> Result<(), Memory>
-        ensures same { self.new ≡ self.old }
-    {
-        self.guide.learn(alloc, problem, roster, awarded)
-    }
-
-    /// Keeps a line of the member that was found elsewhere, so that the guesses know it. It is tested as ever.
-    pub fn offer(
-        &mut self,
-        alloc: Global,
-        problem: &Problem,
-        member: u32,
-        line: &Line,
-    ) -> Result<(), Memory>
-        ensures same { self.new ≡ self.old }
-    {
-        self.guide.offer(alloc, problem, member, line)
-    }
-}
-
-impl Closer for Rounds {
+impl<G: Guide> Closer for Rounds<G> {
     ghost rounds = { λ r. r.rounds };
 
     ghost fits = { IsMadeFor };
@@ -87,19 +42,28 @@ impl Closer for Rounds {
         goal: &Goal,
         node: &Node,
     ) -> Result<Verdict, Memory> {
-        close_node(alloc, problem, goal, node, self.rounds, &mut self.guide)
+        close_node(
+            alloc,
+            problem,
+            goal,
+            node,
+            self.rounds,
+            &mut self.guide,
+            None,
+        )
     }
 
-    fn next_floor(
+    fn propose(
         &mut self,
         alloc: Global,
         problem: &Problem,
         before: &[u32],
         score: u32,
         refuted: u32,
-    ) -> Result<u32, Memory> {
-        self.guide
-            .next_floor(alloc, problem, before, score, refuted)
+    ) -> Result<Proposal, Memory> {
+        let guide = &mut self.guide;
+        let proposed = guide.propose(alloc, problem, before, score, refuted)?;
+        test_floor(alloc, problem, before, proposed, self.rounds, guide)
     }
 
     fn next_place(
@@ -113,5 +77,36 @@ impl Closer for Rounds {
     ) -> Result<u32, Memory> {
         self.guide
             .next_place(alloc, problem, scores, bid, low, high)
+    }
+}
+
+impl<G: Guide> FreshCloser for Rounds<G> {
+    fn new(alloc: Global, problem: &Problem, count: u32) -> Result<Rounds<G>, Memory> {
+        Ok(Rounds {
+            rounds: count,
+            members: problem.base.members.len(),
+            pairings: problem.base.pairings.len(),
+            guide: G::new(alloc, problem)?,
+        })
+    }
+
+    fn learn(
+        &mut self,
+        alloc: Global,
+        problem: &Problem,
+        roster: &Roster,
+        awarded: &Awarded,
+    ) -> Result<(), Memory> {
+        self.guide.learn(alloc, problem, roster, awarded)
+    }
+
+    fn offer(
+        &mut self,
+        alloc: Global,
+        problem: &Problem,
+        member: u32,
+        line: &Line,
+    ) -> Result<(), Memory> {
+        self.guide.offer(alloc, problem, member, line)
     }
 }

@@ -1,5 +1,7 @@
 //! Closing a node, or showing that it is open.
-ghost use Rattle.std.specs.Prelude.{◌≤◌, IfOk, IfSome};
+ghost use Rattle.std.specs.Prelude.{◌<◌, ◌≤◌, [], IfOk, IfSome, length};
+ghost use Rattle.std.specs.Option.{ForSome};
+ghost use Rattle.roster_model.specs.Awards.{floor_goal};
 ghost use Rattle.roster_model.specs.Closing.{IsAccepted};
 ghost use Rattle.roster_model.specs.Goals.{IsGoal, IsNode};
 ghost use Rattle.branch_log.specs.Honest.{IsHonest, IsWhole};
@@ -15,11 +17,10 @@ use crate::rosters::{is_whole, parts_of};
 use crate::rounds::{Evidence, price_rounds};
 use crate::shares::Shares;
 use crate::trials::{is_lineless, is_outweighed, narrowed};
-use branch_log::Verdict;
+use branch_log::{Proposal, Verdict};
+use closer_guide::{Bounded, FloorGuess, Guess, Guide, Part};
 use duty_calendar::{List, Memory};
 use line_lens::standard_lens;
-use node_guesses::{Guess, Guide, Part};
-use roster_guesses::Bounded;
 use roster_model::{Goal, Item, Lens, Node, Problem, Roster};
 use std::alloc::Global;
 
@@ -208,10 +209,10 @@ fn close_by_guess(
 }
 
 /// Remembers the roster of a verdict.
-fn note(
+fn note<G: Guide>(
     alloc: Global,
     problem: &Problem,
-    guide: &mut Guide,
+    guide: &mut G,
     verdict: &Verdict,
 ) -> Result<(), Memory> {
     if let Verdict::Whole(roster) = verdict {
@@ -220,14 +221,33 @@ fn note(
     Ok(())
 }
 
-/// What there is to say of the node: a leaf that closes it, a whole roster, or that so many rounds show it open.
-pub(crate) fn close_node(
+/// The guess that is known, or that the guide makes at the node.
+fn guess<G: Guide>(
+    alloc: Global,
+    problem: &Problem,
+    goal: &Goal,
+    node: &Node,
+    guide: &mut G,
+    known: Option<Guess>,
+) -> Result<Guess, Memory>
+    requires goal { IsGoal problem.now goal.now }
+{
+    match known {
+        Some(guess) => Ok(guess),
+        None => guide.guess(alloc, problem, goal, node),
+    }
+}
+
+/// What there is to say of the node: a leaf that closes it, a whole roster, or that so many rounds show it open. A guess
+/// may be known; else the guide makes one.
+pub(crate) fn close_node<G: Guide>(
     alloc: Global,
     problem: &Problem,
     goal: &Goal,
     node: &Node,
     count: u32,
-    guide: &mut Guide,
+    guide: &mut G,
+    known: Option<Guess>,
 ) -> Result<Verdict, Memory>
     requires goal { IsGoal problem.now goal.now }
     requires node { IsNode problem.now node.now }
@@ -241,8 +261,39 @@ pub(crate) fn close_node(
     if let Some(member) = misfit(alloc, problem, goal, node)? {
         return Ok(Verdict::Closed(Item::Fixed(member)));
     }
-    let guess = guide.guess(alloc, problem, goal, node)?;
+    let guess = guess(alloc, problem, goal, node, guide, known)?;
     let verdict = close_by_guess(alloc, problem, goal, node, count, guess)?;
     note(alloc, problem, guide, &verdict)?;
     Ok(verdict)
+}
+
+/// The floor that was guessed, and what there is to say of the empty node of its goal, where a guess at that was made.
+pub(crate) fn test_floor<G: Guide>(
+    alloc: Global,
+    problem: &Problem,
+    before: &[u32],
+    guessed: FloorGuess,
+    count: u32,
+    guide: &mut G,
+) -> Result<Proposal, Memory>
+    requires place { length before.now < length problem.now.base.members }
+    requires some_rounds { 1 ≤ count }
+    requires few_rounds { count ≤ 2000 }
+    ensures honest { IfOk result (λ p. ForSome p.verdict
+        (IsHonest problem.now count (floor_goal before.now p.floor) [])) }
+{
+    let floor = guessed.floor;
+    let Some(guess) = guessed.guess else {
+        return Ok(Proposal {
+            floor,
+            verdict: None,
+        });
+    };
+    let goal = Goal::reaching(alloc, before, floor)?;
+    let root = Node::new(alloc);
+    let verdict = close_node(alloc, problem, &goal, &root, count, guide, Some(guess))?;
+    Ok(Proposal {
+        floor,
+        verdict: Some(verdict),
+    })
 }

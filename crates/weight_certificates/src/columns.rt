@@ -10,10 +10,10 @@ ghost use Rattle.weight_certificates.specs.Columns.{AreColumns, lines_of};
 ghost use Rattle.weight_certificates.specs.Pricing.{AreStandard};
 
 use crate::lists::append;
+use closer_guide::Part;
 use duty_calendar::{Copied, List, Memory};
 use line_generator::are_known;
 use line_lens::lens_line;
-use node_guesses::Part;
 use roster_model::{Goal, Lens, Line, Node, Problem, Roster};
 use std::alloc::Global;
 use std::marker::Model;

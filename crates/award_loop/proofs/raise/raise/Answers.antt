@@ -47,7 +47,7 @@ loop-score-preserved-in-Found g c =
     let problem = c.args.problem.now in
     let before = c.args.before.now in
     let inv = c.loop-score.invariant in
-    let floor = c.in_ok-floor.floor in
+    let floor = c.in_ok-proposal.proposal.floor in
     let met = rw c.in-Found.is at c.in_ok-better.ensures.found in
     let has : HasScores problem before c.in-Found.better = record {
       complete = met.complete;
@@ -56,15 +56,15 @@ loop-score-preserved-in-Found g c =
     let reached : floor ≤ c.score_in-score-in-Found.result =
     omega (arith, c.score_in-score-in-Found.ensures.value, floor_reached problem c.in-Found.better before floor met.complete met.meets c.requires.place) in
     record {
-      fits = λ other. iff_then (c.ask.ensures.fits other) (iff_then (c.next_floor.ensures.fits other) (inv.fits other));
-      same_rounds = c.ask.ensures.rounds ∙ c.next_floor.ensures.rounds ∙ inv.same_rounds;
-      rounds = c.ask.ensures.rounds ∙ c.next_floor.ensures.rounds ∙ inv.rounds ∙ sym c.ask.ensures.adds.rounds;
+      fits = λ other. iff_then (c.ask.ensures.fits other) (iff_then (c.propose.ensures.fits other) (inv.fits other));
+      same_rounds = c.ask.ensures.rounds ∙ c.propose.ensures.rounds ∙ inv.same_rounds;
+      rounds = c.ask.ensures.rounds ∙ c.propose.ensures.rounds ∙ inv.rounds ∙ sym c.ask.ensures.adds.rounds;
       has = has;
       score = c.score_in-score-in-Found.ensures.value;
       below = below-refuted problem before c.in-Found.better c.score_in-score-in-Found.result c.loop-score.refuted c.loop-score.proof has c.requires.place c.score_in-score-in-Found.ensures.value inv.closes;
       refuted = inv.refuted;
-      adds = asked-found problem before c.loop-score.score c.loop-score.refuted floor c.in_ok-floor.ensures.above c.in_ok-floor.ensures.below inv.refuted c.score_in-score-in-Found.result c.args.ledger.now c.loop-score.ledger c.ask.new.ledger reached inv.adds c.ask.ensures.adds;
-      takes = steps-more problem (floor_goal before floor) (bids_weight problem (length before)) c.loop-score.score c.loop-score.refuted c.score_in-score-in-Found.result c.loop-score.refuted c.args.ledger.now c.loop-score.ledger c.ask.new.ledger (omega (arith, reached, c.in_ok-floor.ensures.above)) inv.takes c.ask.ensures.adds c.ask.ensures.few;
+      adds = asked-found problem before c.loop-score.score c.loop-score.refuted floor c.in_ok-proposal.ensures.above c.in_ok-proposal.ensures.below inv.refuted c.score_in-score-in-Found.result c.args.ledger.now c.loop-score.ledger c.ask.new.ledger reached inv.adds c.ask.ensures.adds;
+      takes = steps-more problem (floor_goal before floor) (bids_weight problem (length before)) c.loop-score.score c.loop-score.refuted c.score_in-score-in-Found.result c.loop-score.refuted c.args.ledger.now c.loop-score.ledger c.ask.new.ledger (omega (arith, reached, c.in_ok-proposal.ensures.above)) inv.takes c.ask.ensures.adds c.ask.ensures.few;
       room = λ le. met.room;
       closes = inv.closes;
       short = omega (arith, inv.short, entries-more_one problem (floor_goal before floor) c.loop-score.ledger c.ask.new.ledger c.ask.ensures.adds);
@@ -75,19 +75,19 @@ loop-score-preserved g c =
     let problem = c.args.problem.now in
     let before = c.args.before.now in
     let inv = c.loop-score.invariant in
-    let floor = c.in_ok-floor.floor in
+    let floor = c.in_ok-proposal.proposal.floor in
     let closed = rw c.in-Refuted.is at c.in_ok-better.ensures.found in
     let short = rw c.in-Refuted.is at c.in_ok-better.ensures.short in
     record {
-      fits = λ other. iff_then (c.ask.ensures.fits other) (iff_then (c.next_floor.ensures.fits other) (inv.fits other));
-      same_rounds = c.ask.ensures.rounds ∙ c.next_floor.ensures.rounds ∙ inv.same_rounds;
-      rounds = c.ask.ensures.rounds ∙ c.next_floor.ensures.rounds ∙ inv.rounds ∙ sym c.ask.ensures.adds.rounds;
+      fits = λ other. iff_then (c.ask.ensures.fits other) (iff_then (c.propose.ensures.fits other) (inv.fits other));
+      same_rounds = c.ask.ensures.rounds ∙ c.propose.ensures.rounds ∙ inv.same_rounds;
+      rounds = c.ask.ensures.rounds ∙ c.propose.ensures.rounds ∙ inv.rounds ∙ sym c.ask.ensures.adds.rounds;
       has = inv.has;
       score = inv.score;
-      below = c.in_ok-floor.ensures.above;
-      refuted = omega (arith, inv.refuted, c.in_ok-floor.ensures.below);
-      adds = asked-refuted problem before c.loop-score.score c.loop-score.refuted floor c.in_ok-floor.ensures.above c.in_ok-floor.ensures.below inv.refuted c.args.ledger.now c.loop-score.ledger c.ask.new.ledger inv.adds c.ask.ensures.adds;
-      takes = steps-more problem (floor_goal before floor) (bids_weight problem (length before)) c.loop-score.score c.loop-score.refuted c.loop-score.score floor c.args.ledger.now c.loop-score.ledger c.ask.new.ledger (omega (arith, c.in_ok-floor.ensures.below)) inv.takes c.ask.ensures.adds c.ask.ensures.few;
+      below = c.in_ok-proposal.ensures.above;
+      refuted = omega (arith, inv.refuted, c.in_ok-proposal.ensures.below);
+      adds = asked-refuted problem before c.loop-score.score c.loop-score.refuted floor c.in_ok-proposal.ensures.above c.in_ok-proposal.ensures.below inv.refuted c.args.ledger.now c.loop-score.ledger c.ask.new.ledger inv.adds c.ask.ensures.adds;
+      takes = steps-more problem (floor_goal before floor) (bids_weight problem (length before)) c.loop-score.score c.loop-score.refuted c.loop-score.score floor c.args.ledger.now c.loop-score.ledger c.ask.new.ledger (omega (arith, c.in_ok-proposal.ensures.below)) inv.takes c.ask.ensures.adds c.ask.ensures.few;
       room = λ le. closed.room;
       closes = λ le. closed.closes;
       short = omega (arith, short, inv.adds, entries-more problem (IsSettled problem before c.loop-score.score c.loop-score.refuted) c.args.ledger.now c.loop-score.ledger inv.adds);
@@ -97,23 +97,23 @@ pub loop-score-smaller-in-Found : goal.loop-score-smaller-in-Found
 loop-score-smaller-in-Found g c =
     let inv = c.loop-score.invariant in
     let met = rw c.in-Found.is at c.in_ok-better.ensures.found in
-    omega (arith, inv.below, c.score_in-score-in-Found.ensures.value, c.in_ok-floor.ensures.above, floor_reached c.args.problem.now c.in-Found.better c.args.before.now c.in_ok-floor.floor met.complete met.meets c.requires.place)
+    omega (arith, inv.below, c.score_in-score-in-Found.ensures.value, c.in_ok-proposal.ensures.above, floor_reached c.args.problem.now c.in-Found.better c.args.before.now c.in_ok-proposal.proposal.floor met.complete met.meets c.requires.place)
 
 pub returns-in_err-better-clause-adds : goal.returns-in_err-better-clause-adds
 returns-in_err-better-clause-adds g c =
-    asked-last c.args.problem.now c.args.before.now c.loop-score.score c.loop-score.refuted c.in_ok-floor.floor c.in_ok-floor.ensures.above c.in_ok-floor.ensures.below c.loop-score.invariant.refuted c.requires.greatest c.requires.place c.args.ledger.now c.loop-score.ledger c.ask.new.ledger c.loop-score.invariant.adds c.ask.ensures.adds
+    asked-last c.args.problem.now c.args.before.now c.loop-score.score c.loop-score.refuted c.in_ok-proposal.proposal.floor c.in_ok-proposal.ensures.above c.in_ok-proposal.ensures.below c.loop-score.invariant.refuted c.requires.greatest c.requires.place c.args.ledger.now c.loop-score.ledger c.ask.new.ledger c.loop-score.invariant.adds c.ask.ensures.adds
 
 pub returns-in-Spent-clause-adds : goal.returns-in-Spent-clause-adds
 returns-in-Spent-clause-adds g c =
-    asked-last c.args.problem.now c.args.before.now c.loop-score.score c.loop-score.refuted c.in_ok-floor.floor c.in_ok-floor.ensures.above c.in_ok-floor.ensures.below c.loop-score.invariant.refuted c.requires.greatest c.requires.place c.args.ledger.now c.loop-score.ledger c.ask.new.ledger c.loop-score.invariant.adds c.ask.ensures.adds
+    asked-last c.args.problem.now c.args.before.now c.loop-score.score c.loop-score.refuted c.in_ok-proposal.proposal.floor c.in_ok-proposal.ensures.above c.in_ok-proposal.ensures.below c.loop-score.invariant.refuted c.requires.greatest c.requires.place c.args.ledger.now c.loop-score.ledger c.ask.new.ledger c.loop-score.invariant.adds c.ask.ensures.adds
 
 pub returns-in_err-better-clause-takes : goal.returns-in_err-better-clause-takes
 returns-in_err-better-clause-takes g c =
-    steps-last c.args.problem.now (floor_goal c.args.before.now c.in_ok-floor.floor) (bids_weight c.args.problem.now (length c.args.before.now)) c.loop-score.score c.loop-score.refuted c.args.ledger.now c.loop-score.ledger c.ask.new.ledger c.loop-score-test.true c.loop-score.invariant.takes c.ask.ensures.adds c.ask.ensures.few
+    steps-last c.args.problem.now (floor_goal c.args.before.now c.in_ok-proposal.proposal.floor) (bids_weight c.args.problem.now (length c.args.before.now)) c.loop-score.score c.loop-score.refuted c.args.ledger.now c.loop-score.ledger c.ask.new.ledger c.loop-score-test.true c.loop-score.invariant.takes c.ask.ensures.adds c.ask.ensures.few
 
 pub returns-in-Spent-clause-takes : goal.returns-in-Spent-clause-takes
 returns-in-Spent-clause-takes g c =
-    steps-last c.args.problem.now (floor_goal c.args.before.now c.in_ok-floor.floor) (bids_weight c.args.problem.now (length c.args.before.now)) c.loop-score.score c.loop-score.refuted c.args.ledger.now c.loop-score.ledger c.ask.new.ledger c.loop-score-test.true c.loop-score.invariant.takes c.ask.ensures.adds c.ask.ensures.few
+    steps-last c.args.problem.now (floor_goal c.args.before.now c.in_ok-proposal.proposal.floor) (bids_weight c.args.problem.now (length c.args.before.now)) c.loop-score.score c.loop-score.refuted c.args.ledger.now c.loop-score.ledger c.ask.new.ledger c.loop-score-test.true c.loop-score.invariant.takes c.ask.ensures.adds c.ask.ensures.few
 
 pub returns-clause-raised : goal.returns-clause-raised
 returns-clause-raised g c =
@@ -139,10 +139,10 @@ pub returns-clause-takes : goal.returns-clause-takes
 returns-clause-takes g c =
     steps-all c.args.problem.now (bids_weight c.args.problem.now (length c.args.before.now)) c.loop-score.score c.loop-score.refuted c.args.ledger.now c.loop-score.ledger c.loop-score.invariant.below c.loop-score.invariant.takes
 
-pub returns-in_err-floor-clause-adds : goal.returns-in_err-floor-clause-adds
-returns-in_err-floor-clause-adds g c =
+pub returns-in_err-proposal-clause-adds : goal.returns-in_err-proposal-clause-adds
+returns-in_err-proposal-clause-adds g c =
     asked-all c.args.problem.now c.args.before.now c.loop-score.score c.loop-score.refuted c.args.ledger.now c.loop-score.ledger c.requires.greatest c.requires.place c.loop-score.invariant.adds
 
-pub returns-in_err-floor-clause-takes : goal.returns-in_err-floor-clause-takes
-returns-in_err-floor-clause-takes g c =
+pub returns-in_err-proposal-clause-takes : goal.returns-in_err-proposal-clause-takes
+returns-in_err-proposal-clause-takes g c =
     steps-all c.args.problem.now (bids_weight c.args.problem.now (length c.args.before.now)) c.loop-score.score c.loop-score.refuted c.args.ledger.now c.loop-score.ledger c.loop-score.invariant.below c.loop-score.invariant.takes

@@ -1,4 +1,5 @@
 use Rattle.std.proofs.Common.{refl, ◌∙◌, [], ◌∷◌, sym, ap, subst, arith, List}
+use Rattle.std.proofs.lemmas.Option.{none-some}
 use Rattle.roster_model.specs.declared.node.Decision.{Decision}
 use Rattle.roster_model.specs.Decided.{open_nodes, nodes_behind}
 use Rattle.completion_search.specs.Path.{IsAt}
@@ -21,6 +22,7 @@ loop-is_open-init g c = record {
   fits = λ other. (λ h. h, λ h. h);
   same_rounds = refl;
   rounds = c.requires.rounds;
+  first = rw c.new-node.ensures.empty c.requires.first;
   room = c.requires.room;
   grown = HasGrown_none c.args.problem.now c.args.number c.args.ledger.now;
   walked = Leads-start c.args.problem.now c.args.goal.now c.new-items.result c.new-node.result c.new-items.ensures c.new-node.ensures.empty;
@@ -37,6 +39,7 @@ loop-is_open-preserved-in-Closed g c =
       fits = λ other. iff_then (c.close.ensures.fits other) (inv.fits other);
       same_rounds = c.close.ensures.rounds ∙ inv.same_rounds;
       rounds = c.close.ensures.rounds ∙ inv.rounds;
+      first = rw c.close.ensures.taken (λ v e. absurd (none-some v e));
       room = inv.room;
       grown = inv.grown;
       walked = Leads-leaf c.args.problem.now c.args.goal.now ([] ∷ []) c.loop-is_open.items c.add_item.new.items c.in-Closed.leaf c.loop-is_open.is_open c.loop-is_open.node _ c.loop-is_open-test.true inv.walked ok c.in_ok-add_item-in-Closed.ensures.ok c.turn-is_open.ensures.behind;
@@ -52,6 +55,7 @@ loop-is_open-preserved g c =
       fits = λ other. iff_then (c.close.ensures.fits other) (inv.fits other);
       same_rounds = c.close.ensures.rounds ∙ inv.same_rounds;
       rounds = c.close.ensures.rounds ∙ inv.rounds ∙ sym c.count_node.ensures.grown.rounds;
+      first = rw c.close.ensures.taken (λ v e. absurd (none-some v e));
       room = omega (arith, inv.room, c.count_node.ensures.one, c.count_node.ensures.grown.cap, c.len.ensures.len, c.cap.ensures.cap, c.if-len-cap.false);
       grown = HasGrown_then c.args.problem.now c.args.number c.args.ledger.now c.loop-is_open.ledger c.count_node.new.ledger inv.grown c.count_node.ensures.grown;
       walked = Leads-split c.args.problem.now c.args.goal.now ([] ∷ []) c.loop-is_open.items c.add_item-in-Branch.new.items c.in-Branch.member c.in-Branch.pairing c.loop-is_open.is_open c.loop-is_open.node c.fly.new.node c.loop-is_open-test.true inv.walked h.pair c.in_ok-add_item-in-Branch.ensures.ok c.in_ok-fly-in-Branch.ensures.ok;

@@ -1,8 +1,10 @@
 use Rattle.std.proofs.Common.{◌≡◌, ◌↔◌, ◌<◌, ◌≤◌, ◌+◌, ◌-◌, ◌*◌, true, [], ◌∷◌, length}
+use Rattle.std.specs.Option.{ForSome}
 use Rattle.roster_model.specs.declared.problem.Problem.{Problem}
 use Rattle.roster_model.specs.Decided.{open_nodes}
 use Rattle.roster_model.specs.Splits.{splits_in}
 use Rattle.roster_model.specs.Walk.{Leads}
+use Rattle.branch_log.specs.Honest.{IsHonest}
 use Rattle.completion_search.specs.Path.{IsAt, HasGrown}
 use Rattle.completion_search.proofs.walk.descend.Given as goal
 
@@ -15,6 +17,7 @@ invariant-loop-is_open g l = record {
   grown : HasGrown l.problem l.number l.fn.ledger l.ledger;
   walked : Leads l.problem l.goal ([] ∷ []) l.items (open_nodes l.is_open l.node);
   here : l.is_open ≡ true → IsAt l.problem l.ledger.entries l.number l.node l.parents.items;
+  first : ForSome l.first (IsHonest l.problem l.ledger.rounds l.goal l.node);
   short : splits_in l.items + length l.fn.ledger.entries ≤ length l.ledger.entries;
 }
 

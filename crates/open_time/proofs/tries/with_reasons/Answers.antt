@@ -7,5 +7,5 @@ explain-requires-clause-greatest g c = best-greatest c.args.problem.now c.args.r
 
 pub returns-in-All-clause-tried : goal.returns-in-All-clause-tried
 returns-in-All-clause-tried g c =
-    tried_award c.args.problem.now c.args.roster c.args.proofs c.args.ledger.now c.explain.new.ledger c.in-All.reasons c.in-All.shown c.requires.awarded
+    tried_award c.args.problem.now c.args.crew c.args.roster c.args.proofs c.args.ledger.now c.explain.new.ledger c.in-All.reasons c.in-All.shown c.requires.awarded c.requires.settled
     (rw c.in-All.is at c.in_ok-reasons.ensures.outcome) (rw c.in-All.is at c.in_ok-reasons.ensures.short)

@@ -1,9 +1,8 @@
 use Rattle.std.proofs.Common.{◌≡◌}
-use Rattle.weight_certificates.specs.Setup.{IsMadeFor}
 use Rattle.plan_commands.proofs.asking.learned.Given as goal
 
 abbrev pub invariant-loop-one : goal.invariant-loop-one
-invariant-loop-one l = record {
-  rounds : l.closer.rounds ≡ 400;
-  fits : IsMadeFor l.closer l.question.other;
+invariant-loop-one g l = record {
+  rounds : g.C.Closer.rounds l.closer ≡ 400;
+  fits : g.C.Closer.fits l.closer l.question.other;
 }
