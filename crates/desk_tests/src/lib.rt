@@ -2,6 +2,10 @@
 #![tactic(auto)]
 
 #[cfg(test)]
+mod escaped;
+#[cfg(test)]
+mod folders;
+#[cfg(test)]
 mod judged;
 #[cfg(test)]
 mod june;

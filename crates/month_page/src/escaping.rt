@@ -32,18 +32,3 @@ pub fn put_escaped(out: &mut List<u8>, text: &[u8]) -> Result<(), Memory>
     }
     Ok(())
 }
-
-#[cfg(test)]
-mod tests {
-    use super::*;
-    use std::test::Fail;
-
-    #[test]
-    fn a_text_makes_no_markup(rt: HostRuntime) -> Result<(), Fail> {
-        let mut out = List::new(rt.alloc());
-        put_escaped(&mut out, b"<a b='c' d=\"e\">&f</a>")?;
-        let due = b"&lt;a b=&#39;c&#39; d=&quot;e&quot;&gt;&amp;f&lt;/a&gt;";
-        assert_eq!(rt; out.as_slice(), due.as_slice());
-        Ok(())
-    }
-}
