@@ -14,4 +14,6 @@ mod listed;
 #[cfg(test)]
 mod migrated;
 #[cfg(test)]
+mod shelves;
+#[cfg(test)]
 mod traded;

@@ -79,23 +79,3 @@ impl Sink for MemorySink {
         Ok(())
     }
 }
-
-#[cfg(test)]
-mod tests {
-    use super::*;
-    use std::test::Fail;
-
-    #[test]
-    fn the_second_put_fails(rt: HostRuntime) -> Result<(), Fail> {
-        let alloc = rt.alloc();
-        let mut failing = List::new(alloc);
-        assert!(rt; failing.push(2).is_ok());
-        let mut sink = MemorySink::new(alloc, failing);
-        sink.put(b"yes\n")?;
-        assert_eq!(rt; sink.put(b"no\n"), Err(SinkFault::PutFailed));
-        sink.put(b"vector 10\n")?;
-        assert_eq!(rt; sink.bytes(), b"yes\nvector 10\n".as_slice());
-        assert_eq!(rt; sink.faults, 1);
-        Ok(())
-    }
-}

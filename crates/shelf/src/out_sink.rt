@@ -54,19 +54,3 @@ impl<W: Write> Sink for OutSink<W> {
         }
     }
 }
-
-#[cfg(test)]
-mod tests {
-    use super::*;
-    use std::test::Fail;
-
-    #[test]
-    fn writes_whole_pieces(rt: HostRuntime) -> Result<(), Fail> {
-        let mut out = Vec::new(rt.alloc());
-        let mut sink = OutSink::new(&mut out);
-        sink.put(b"yes\n")?;
-        sink.put(b"vector 10\n")?;
-        assert_eq!(rt; out.as_slice(), b"yes\nvector 10\n".as_slice());
-        Ok(())
-    }
-}
