@@ -3,7 +3,7 @@ use Rattle.std.proofs.Common.{◌≡◌, ℕ, ◌+◌, ◌<◌, List, [], ◌∷
 use Rattle.std.proofs.lemmas.List.{take_more, append-nil}
 use Rattle.std.proofs.lemmas.Grind.{flat_map-append}
 use Rattle.command_words.specs.declared.command.Sizes.{Sizes}
-use Rattle.plan_commands.specs.declared.open_stop.OpenRow.{OpenRow}
+use Rattle.open_commands.specs.declared.open_stop.OpenRow.{OpenRow}
 use Rattle.answer_texts.specs.Lines.{numbers}
 use Rattle.answer_texts.specs.MakeTexts.{made_line}
 use Rattle.answer_texts.specs.OpenTexts.{row_line, spaced}

@@ -4,10 +4,10 @@ use Rattle.cert_text.specs.Codes.{cert_code}
 use Rattle.open_time.specs.declared.refusal.OpenNo.{OpenNo}
 use Rattle.open_time.specs.declared.refusal.OpenNo.TheVariants as no
 use Rattle.roster_text.specs.Codes.{roster_code, reason_code}
-use Rattle.plan_commands.specs.declared.open_check_stop.OpenCheckStop.{OpenCheckStop}
-use Rattle.plan_commands.specs.declared.open_check_stop.OpenCheckStop.TheVariants as stop
-use Rattle.plan_commands.specs.declared.open_check_stop.Unopened.{Unopened}
-use Rattle.plan_commands.specs.declared.open_check_stop.Unopened.TheVariants as unopened
+use Rattle.open_commands.specs.declared.open_check_stop.OpenCheckStop.{OpenCheckStop}
+use Rattle.open_commands.specs.declared.open_check_stop.OpenCheckStop.TheVariants as stop
+use Rattle.open_commands.specs.declared.open_check_stop.Unopened.{Unopened}
+use Rattle.open_commands.specs.declared.open_check_stop.Unopened.TheVariants as unopened
 use Rattle.answer_texts.specs.declared.status.Status.{Status}
 use Rattle.answer_texts.specs.declared.status.Status.TheVariants as status
 use Rattle.answer_texts.specs.CheckTexts.{no_text}

@@ -3,12 +3,12 @@ use Rattle.std.specs.Prelude.{ℕ, ◌+◌, List, [], ◌∷◌, ◌++◌, codes
 use Rattle.std.specs.List.{flat_map}
 use Rattle.open_time.specs.declared.fault.OpenFault.{OpenFault}
 use Rattle.open_time.specs.declared.fault.OpenFault.TheVariants as fault
-use Rattle.plan_commands.specs.declared.open_stop.OpenFinding.{OpenFinding}
-use Rattle.plan_commands.specs.declared.open_stop.OpenRow.{OpenRow}
-use Rattle.plan_commands.specs.declared.open_stop.OpenStop.{OpenStop}
-use Rattle.plan_commands.specs.declared.open_stop.OpenStop.TheVariants as stop
-use Rattle.plan_commands.specs.declared.open_stop.Opening.{Opening}
-use Rattle.plan_commands.specs.declared.open_stop.Opening.TheVariants.{Award, NoRoster}
+use Rattle.open_commands.specs.declared.open_stop.OpenFinding.{OpenFinding}
+use Rattle.open_commands.specs.declared.open_stop.OpenRow.{OpenRow}
+use Rattle.open_commands.specs.declared.open_stop.OpenStop.{OpenStop}
+use Rattle.open_commands.specs.declared.open_stop.OpenStop.TheVariants as stop
+use Rattle.open_commands.specs.declared.open_stop.Opening.{Opening}
+use Rattle.open_commands.specs.declared.open_stop.Opening.TheVariants.{Award, NoRoster}
 use Rattle.answer_texts.specs.declared.status.Status.{Status}
 use Rattle.answer_texts.specs.declared.status.Status.TheVariants as status
 use Rattle.answer_texts.specs.Lines.{line, line_of, numbers}

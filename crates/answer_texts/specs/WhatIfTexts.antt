@@ -5,11 +5,11 @@ use Rattle.bid_language.specs.declared.fault.BidFault.{BidFault}
 use Rattle.cert_text.specs.Codes.{cert_code}
 use Rattle.month_files.specs.declared.file.File.TheVariants.{OtherBids}
 use Rattle.roster_text.specs.Codes.{roster_code, reason_code}
-use Rattle.plan_commands.specs.declared.asking_stop.Unasked.{Unasked}
-use Rattle.plan_commands.specs.declared.asking_stop.Unasked.TheVariants as unasked
-use Rattle.plan_commands.specs.declared.asking_stop.WhatIf.{WhatIf}
-use Rattle.plan_commands.specs.declared.asking_stop.WhatIfStop.{WhatIfStop}
-use Rattle.plan_commands.specs.declared.asking_stop.WhatIfStop.TheVariants as stop
+use Rattle.whatif_commands.specs.declared.asking_stop.Unasked.{Unasked}
+use Rattle.whatif_commands.specs.declared.asking_stop.Unasked.TheVariants as unasked
+use Rattle.whatif_commands.specs.declared.asking_stop.WhatIf.{WhatIf}
+use Rattle.whatif_commands.specs.declared.asking_stop.WhatIfStop.{WhatIfStop}
+use Rattle.whatif_commands.specs.declared.asking_stop.WhatIfStop.TheVariants as stop
 use Rattle.answer_texts.specs.declared.status.Status.{Status}
 use Rattle.answer_texts.specs.declared.status.Status.TheVariants as status
 use Rattle.answer_texts.specs.CheckTexts.{no_text}

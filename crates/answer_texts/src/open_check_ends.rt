@@ -10,8 +10,8 @@ use crate::open_ends::put_fault;
 use crate::status::Status;
 use duty_calendar::{List, Memory};
 use field_text::put_bytes;
+use open_commands::{OpenCheckStop, Unopened};
 use open_time::OpenNo;
-use plan_commands::{OpenCheckStop, Unopened};
 use std::alloc::Global;
 
 /// How a run of `opencheck` ends.

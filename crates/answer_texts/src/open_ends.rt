@@ -9,8 +9,8 @@ use crate::status::Status;
 use crate::write_ends::{unwritten_text, write_status};
 use duty_calendar::{List, Memory, Name};
 use field_text::put_bytes;
+use open_commands::{OpenFinding, OpenRow, OpenStop, Opening};
 use open_time::OpenFault;
-use plan_commands::{OpenFinding, OpenRow, OpenStop, Opening};
 use std::alloc::Global;
 
 /// How a run ends where this was found and written.

@@ -14,8 +14,8 @@ use crate::write_ends::{unwritten_text, write_status};
 use bid_language::BidFault;
 use duty_calendar::{List, Memory};
 use field_text::put_bytes;
-use plan_commands::{Unasked, WhatIf, WhatIfStop};
 use std::alloc::Global;
+use whatif_commands::{Unasked, WhatIf, WhatIfStop};
 
 /// How a run of `whatif` ends.
 pub fn whatif_status(end: &Result<WhatIf, WhatIfStop>) -> Status

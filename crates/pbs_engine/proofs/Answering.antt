@@ -17,11 +17,11 @@ use Rattle.desk_commands.specs.declared.migrate_stop.MigrateStop.{MigrateStop}
 use Rattle.desk_commands.specs.declared.trade_stop.Traded.{Traded}
 use Rattle.desk_commands.specs.declared.trade_stop.TradeStop.{TradeStop}
 use Rattle.month_files.specs.Handing.{FromReads}
-use Rattle.plan_commands.specs.declared.asking_stop.WhatIf.{WhatIf}
-use Rattle.plan_commands.specs.declared.asking_stop.WhatIfStop.{WhatIfStop}
-use Rattle.plan_commands.specs.declared.open_check_stop.OpenCheckStop.{OpenCheckStop}
-use Rattle.plan_commands.specs.declared.open_stop.OpenFinding.{OpenFinding}
-use Rattle.plan_commands.specs.declared.open_stop.OpenStop.{OpenStop}
+use Rattle.whatif_commands.specs.declared.asking_stop.WhatIf.{WhatIf}
+use Rattle.whatif_commands.specs.declared.asking_stop.WhatIfStop.{WhatIfStop}
+use Rattle.open_commands.specs.declared.open_check_stop.OpenCheckStop.{OpenCheckStop}
+use Rattle.open_commands.specs.declared.open_stop.OpenFinding.{OpenFinding}
+use Rattle.open_commands.specs.declared.open_stop.OpenStop.{OpenStop}
 use Rattle.month_files.specs.declared.file.File.{File}
 use Rattle.answer_texts.specs.declared.status.Status.{Status}
 use Rattle.answer_texts.specs.declared.status.Status.TheVariants as status

@@ -6,10 +6,10 @@ use Rattle.shelf.specs.declared.tally.Tally.{Tally}
 use Rattle.command_words.specs.declared.command.Command.TheVariants as command
 use Rattle.month_files.specs.declared.fault.BadInput.TheVariants as bad
 use Rattle.month_files.specs.declared.unread.Unread.TheVariants as unread
-use Rattle.plan_commands.specs.OpenChecking.{IsOpenCheck}
-use Rattle.plan_commands.specs.OpenCheckingEnds.{OpenCheckCause}
-use Rattle.plan_commands.specs.declared.open_check_stop.OpenCheckStop.{OpenCheckStop}
-use Rattle.plan_commands.specs.declared.open_check_stop.OpenCheckStop.TheVariants as stop
+use Rattle.open_commands.specs.OpenChecking.{IsOpenCheck}
+use Rattle.open_commands.specs.OpenCheckingEnds.{OpenCheckCause}
+use Rattle.open_commands.specs.declared.open_check_stop.OpenCheckStop.{OpenCheckStop}
+use Rattle.open_commands.specs.declared.open_check_stop.OpenCheckStop.TheVariants as stop
 use Rattle.answer_texts.specs.OpenCheckTexts.{open_check_status}
 use Rattle.answer_texts.specs.declared.status.Status.TheVariants as status
 use Rattle.pbs_engine.specs.Rows.{IsQuiet}

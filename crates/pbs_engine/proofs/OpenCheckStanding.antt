@@ -12,10 +12,10 @@ use Rattle.month_files.specs.declared.fault.BadInput.TheVariants as bad
 use Rattle.month_files.specs.declared.file.File.TheVariants.{OpenNone, OpenCertificate, OpenReasons, OpenRoster}
 use Rattle.month_files.specs.declared.unread.Unread.{Unread}
 use Rattle.month_files.specs.declared.unread.Unread.TheVariants as unread
-use Rattle.plan_commands.proofs.OpeningLaws.{award_of as accepted_of}
-use Rattle.plan_commands.specs.OpenChecking.{Lodged, lodged_in, none_in, IsNoneText, IsOpenCheck, IsOpenCheckHanded, checking_order}
-use Rattle.plan_commands.specs.declared.open_check_stop.OpenCheckStop.{OpenCheckStop}
-use Rattle.plan_commands.specs.declared.open_check_stop.OpenCheckStop.TheVariants as stop
+use Rattle.open_commands.proofs.OpeningLaws.{award_of as accepted_of}
+use Rattle.open_commands.specs.OpenChecking.{Lodged, lodged_in, none_in, IsNoneText, IsOpenCheck, IsOpenCheckHanded, checking_order}
+use Rattle.open_commands.specs.declared.open_check_stop.OpenCheckStop.{OpenCheckStop}
+use Rattle.open_commands.specs.declared.open_check_stop.OpenCheckStop.TheVariants as stop
 use Rattle.roster_model.specs.declared.award.Certificate.TheVariants.{Award, NoRoster}
 use Rattle.roster_model.specs.declared.proof.Item.{Item}
 use Rattle.answer_texts.specs.OpenCheckTexts.{open_check_status, open_check_text}

@@ -11,10 +11,10 @@ use Rattle.month_files.specs.declared.unread.Unread.{Unread}
 use Rattle.open_time.proofs.OneMonth.{one_month}
 use Rattle.open_time.specs.Refuted.{IsOpenAward}
 use Rattle.open_time.specs.Vacant.{IsWithVacant}
-use Rattle.plan_commands.specs.OpenChecking.{Lodged, lodged_in, HasBadLodged, IsAwardRefused, IsNoneText, IsNoneUnread, IsShown, IsUnopened, SaysAll}
-use Rattle.plan_commands.specs.declared.open_check_stop.OpenCheckStop.TheVariants as stop
-use Rattle.plan_commands.specs.declared.open_check_stop.Unopened.{Unopened}
-use Rattle.plan_commands.specs.declared.open_check_stop.Unopened.TheVariants as unopened
+use Rattle.open_commands.specs.OpenChecking.{Lodged, lodged_in, HasBadLodged, IsAwardRefused, IsNoneText, IsNoneUnread, IsShown, IsUnopened, SaysAll}
+use Rattle.open_commands.specs.declared.open_check_stop.OpenCheckStop.TheVariants as stop
+use Rattle.open_commands.specs.declared.open_check_stop.Unopened.{Unopened}
+use Rattle.open_commands.specs.declared.open_check_stop.Unopened.TheVariants as unopened
 use Rattle.roster_model.specs.declared.award.Awarded.{Awarded}
 use Rattle.roster_model.specs.declared.award.Certificate.{Certificate}
 use Rattle.roster_model.specs.declared.award.Certificate.TheVariants.{Award, NoRoster}

@@ -15,15 +15,15 @@ use Rattle.month_files.specs.declared.writing.Draft.{Draft}
 use Rattle.month_files.specs.declared.writing.WriteStop.{WriteStop}
 use Rattle.month_files.specs.declared.writing.WriteStop.TheVariants as write
 use Rattle.open_time.specs.Vacant.{HasRoomFor}
-use Rattle.plan_commands.specs.Opening as opening
-use Rattle.plan_commands.specs.Opening.{Finds, FindsOpen, FindsNone, IsFound, IsOpen, IsSpent}
-use Rattle.plan_commands.specs.OpeningEnds.{OpenCause}
-use Rattle.plan_commands.specs.declared.open_stop.OpenFinding.{OpenFinding}
-use Rattle.plan_commands.specs.declared.open_stop.OpenRow.{OpenRow}
-use Rattle.plan_commands.specs.declared.open_stop.OpenStop.{OpenStop}
-use Rattle.plan_commands.specs.declared.open_stop.OpenStop.TheVariants as stop
-use Rattle.plan_commands.specs.declared.open_stop.Opening.{Opening}
-use Rattle.plan_commands.specs.declared.open_stop.Opening.TheVariants as kind
+use Rattle.open_commands.specs.Opening as opening
+use Rattle.open_commands.specs.Opening.{Finds, FindsOpen, FindsNone, IsFound, IsOpen, IsSpent}
+use Rattle.open_commands.specs.OpeningEnds.{OpenCause}
+use Rattle.open_commands.specs.declared.open_stop.OpenFinding.{OpenFinding}
+use Rattle.open_commands.specs.declared.open_stop.OpenRow.{OpenRow}
+use Rattle.open_commands.specs.declared.open_stop.OpenStop.{OpenStop}
+use Rattle.open_commands.specs.declared.open_stop.OpenStop.TheVariants as stop
+use Rattle.open_commands.specs.declared.open_stop.Opening.{Opening}
+use Rattle.open_commands.specs.declared.open_stop.Opening.TheVariants as kind
 use Rattle.roster_model.specs.Awards.{HasNoRoster}
 use Rattle.roster_model.specs.declared.problem.Problem.{Problem}
 use Rattle.answer_texts.specs.OpenTexts.{open_status, opening_status}

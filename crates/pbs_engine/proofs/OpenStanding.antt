@@ -26,16 +26,16 @@ use Rattle.month_files.specs.declared.writing.Draft.{Draft}
 use Rattle.month_files.specs.declared.writing.WriteStop.{WriteStop}
 use Rattle.month_files.specs.declared.writing.WriteStop.TheVariants as write
 use Rattle.open_time.specs.Refuted.{IsRefutedBelow}
-use Rattle.plan_commands.proofs.OpeningLaws.{award_of as accepted_of}
-use Rattle.plan_commands.specs.OpenChecking.{Lodged, lodged_in, none_in, IsNoneText, IsShown}
-use Rattle.plan_commands.specs.Opening.{Finds, FindsNone, FindsOpen, IsOpen, IsOpenHanded, IsReadable, IsSpent, award_drafts, none_drafts, opening_order}
-use Rattle.plan_commands.specs.OpeningEnds.{open_written}
-use Rattle.plan_commands.specs.declared.open_stop.OpenFinding.{OpenFinding}
-use Rattle.plan_commands.specs.declared.open_stop.OpenRow.{OpenRow}
-use Rattle.plan_commands.specs.declared.open_stop.OpenStop.{OpenStop}
-use Rattle.plan_commands.specs.declared.open_stop.OpenStop.TheVariants as stop
-use Rattle.plan_commands.specs.declared.open_stop.Opening.{Opening}
-use Rattle.plan_commands.specs.declared.open_stop.Opening.TheVariants as kind
+use Rattle.open_commands.proofs.OpeningLaws.{award_of as accepted_of}
+use Rattle.open_commands.specs.OpenChecking.{Lodged, lodged_in, none_in, IsNoneText, IsShown}
+use Rattle.open_commands.specs.Opening.{Finds, FindsNone, FindsOpen, IsOpen, IsOpenHanded, IsReadable, IsSpent, award_drafts, none_drafts, opening_order}
+use Rattle.open_commands.specs.OpeningEnds.{open_written}
+use Rattle.open_commands.specs.declared.open_stop.OpenFinding.{OpenFinding}
+use Rattle.open_commands.specs.declared.open_stop.OpenRow.{OpenRow}
+use Rattle.open_commands.specs.declared.open_stop.OpenStop.{OpenStop}
+use Rattle.open_commands.specs.declared.open_stop.OpenStop.TheVariants as stop
+use Rattle.open_commands.specs.declared.open_stop.Opening.{Opening}
+use Rattle.open_commands.specs.declared.open_stop.Opening.TheVariants as kind
 use Rattle.roster_model.specs.declared.award.Awarded.{Awarded}
 use Rattle.roster_model.specs.declared.award.Certificate.TheVariants as form
 use Rattle.roster_model.specs.declared.award.Denial.{Denial}

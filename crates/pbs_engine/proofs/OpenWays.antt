@@ -11,7 +11,7 @@ use Rattle.month_files.specs.declared.unread.Unread.{Unread}
 use Rattle.open_time.specs.Vacant.{HasRoomFor, IsOpenFault}
 use Rattle.open_time.specs.declared.fault.OpenFault.{OpenFault}
 use Rattle.open_time.specs.declared.fault.OpenFault.TheVariants as fault
-use Rattle.plan_commands.proofs.OpeningLaws.{name_free}
+use Rattle.open_commands.proofs.OpeningLaws.{name_free}
 use Rattle.roster_model.specs.declared.problem.Problem.{Problem}
 use Rattle.answer_texts.specs.MonthEnds.{unread_status}
 use Rattle.answer_texts.specs.declared.status.Status.{Status}

@@ -21,14 +21,14 @@ use Rattle.month_commands.specs.declared.award_stop.AwardStop.{AwardStop}
 use Rattle.month_commands.specs.declared.award_stop.AwardStop.TheVariants as award_stop
 use Rattle.month_commands.specs.declared.make_stop.MakeStop.{MakeStop}
 use Rattle.month_commands.specs.declared.make_stop.MakeStop.TheVariants as make_stop
-use Rattle.plan_commands.specs.AskingEnds.{whatif_written, AskingCause}
-use Rattle.plan_commands.specs.OpeningEnds.{open_written, OpenCause}
-use Rattle.plan_commands.specs.declared.asking_stop.WhatIf.{WhatIf}
-use Rattle.plan_commands.specs.declared.asking_stop.WhatIfStop.{WhatIfStop}
-use Rattle.plan_commands.specs.declared.asking_stop.WhatIfStop.TheVariants as whatif_stop
-use Rattle.plan_commands.specs.declared.open_stop.OpenFinding.{OpenFinding}
-use Rattle.plan_commands.specs.declared.open_stop.OpenStop.{OpenStop}
-use Rattle.plan_commands.specs.declared.open_stop.OpenStop.TheVariants as open_stop
+use Rattle.whatif_commands.specs.AskingEnds.{whatif_written, AskingCause}
+use Rattle.open_commands.specs.OpeningEnds.{open_written, OpenCause}
+use Rattle.whatif_commands.specs.declared.asking_stop.WhatIf.{WhatIf}
+use Rattle.whatif_commands.specs.declared.asking_stop.WhatIfStop.{WhatIfStop}
+use Rattle.whatif_commands.specs.declared.asking_stop.WhatIfStop.TheVariants as whatif_stop
+use Rattle.open_commands.specs.declared.open_stop.OpenFinding.{OpenFinding}
+use Rattle.open_commands.specs.declared.open_stop.OpenStop.{OpenStop}
+use Rattle.open_commands.specs.declared.open_stop.OpenStop.TheVariants as open_stop
 use Rattle.month_files.specs.FileNames.{name_of}
 use Rattle.month_files.specs.Writes.{StopCause}
 use Rattle.month_files.specs.declared.writing.Draft.{Draft}

@@ -10,12 +10,12 @@ use Rattle.month_files.specs.declared.fault.InputFault.TheVariants as input
 use Rattle.month_files.specs.declared.unread.Unread.TheVariants as unread
 use Rattle.month_files.specs.declared.writing.WriteStop.{WriteStop}
 use Rattle.month_files.specs.declared.writing.WriteStop.TheVariants as write
-use Rattle.plan_commands.specs.Asking.{Claimed, OfClaim, IsAnswered, IsSpent, IsRun}
-use Rattle.plan_commands.specs.AskingEnds.{AskingCause}
-use Rattle.plan_commands.specs.declared.asking.Question.{Question}
-use Rattle.plan_commands.specs.declared.asking_stop.WhatIf.{WhatIf}
-use Rattle.plan_commands.specs.declared.asking_stop.WhatIfStop.{WhatIfStop}
-use Rattle.plan_commands.specs.declared.asking_stop.WhatIfStop.TheVariants as stop
+use Rattle.whatif_commands.specs.Asking.{Claimed, OfClaim, IsAnswered, IsSpent, IsRun}
+use Rattle.whatif_commands.specs.AskingEnds.{AskingCause}
+use Rattle.whatif_commands.specs.declared.question.Question.{Question}
+use Rattle.whatif_commands.specs.declared.asking_stop.WhatIf.{WhatIf}
+use Rattle.whatif_commands.specs.declared.asking_stop.WhatIfStop.{WhatIfStop}
+use Rattle.whatif_commands.specs.declared.asking_stop.WhatIfStop.TheVariants as stop
 use Rattle.answer_texts.specs.WhatIfTexts.{whatif_status}
 use Rattle.answer_texts.specs.WriteEnds.{write_status}
 use Rattle.answer_texts.specs.declared.status.Status.TheVariants as status

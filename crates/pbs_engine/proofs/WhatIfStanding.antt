@@ -18,12 +18,12 @@ use Rattle.month_files.specs.declared.unread.Unread.TheVariants as unread
 use Rattle.month_files.specs.declared.writing.Draft.{Draft}
 use Rattle.month_files.specs.declared.writing.WriteStop.{WriteStop}
 use Rattle.month_files.specs.declared.writing.WriteStop.TheVariants as write
-use Rattle.plan_commands.specs.Asking.{Asked, asked_in, Claimed, IsAskedIn, OfClaim, MayAnswer, IsSpent, HasWhatIf, IsRun, IsRunHanded, asking_order}
-use Rattle.plan_commands.specs.AskingEnds.{whatif_written}
-use Rattle.plan_commands.specs.declared.asking.Question.{Question}
-use Rattle.plan_commands.specs.declared.asking_stop.WhatIf.{WhatIf}
-use Rattle.plan_commands.specs.declared.asking_stop.WhatIfStop.{WhatIfStop}
-use Rattle.plan_commands.specs.declared.asking_stop.WhatIfStop.TheVariants as stop
+use Rattle.whatif_commands.specs.Asking.{Asked, asked_in, Claimed, IsAskedIn, OfClaim, MayAnswer, IsSpent, HasWhatIf, IsRun, IsRunHanded, asking_order}
+use Rattle.whatif_commands.specs.AskingEnds.{whatif_written}
+use Rattle.whatif_commands.specs.declared.question.Question.{Question}
+use Rattle.whatif_commands.specs.declared.asking_stop.WhatIf.{WhatIf}
+use Rattle.whatif_commands.specs.declared.asking_stop.WhatIfStop.{WhatIfStop}
+use Rattle.whatif_commands.specs.declared.asking_stop.WhatIfStop.TheVariants as stop
 use Rattle.roster_model.proofs.Greatest.{length-scores}
 use Rattle.roster_model.proofs.Seniority.{greatest-first}
 use Rattle.roster_model.specs.Awards.{IsGreatest}

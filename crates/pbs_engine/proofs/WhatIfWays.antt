@@ -10,10 +10,10 @@ use Rattle.month_files.proofs.OneMonth.{one_problem, never_both}
 use Rattle.month_files.specs.Months.{Names, HasFault}
 use Rattle.month_files.specs.declared.fault.InputFault.{InputFault}
 use Rattle.month_files.specs.declared.unread.Unread.{Unread}
-use Rattle.plan_commands.specs.Asking.{Asked, asked_in, Claimed, claimed_in, IsAskedIn, OfClaim, HasUnasked, EndsReading, IsStanding}
-use Rattle.plan_commands.specs.declared.asking.Question.{Question}
-use Rattle.plan_commands.specs.declared.asking_stop.Unasked.{Unasked}
-use Rattle.plan_commands.specs.declared.asking_stop.Unasked.TheVariants as unasked
+use Rattle.whatif_commands.specs.Asking.{Asked, asked_in, Claimed, claimed_in, IsAskedIn, OfClaim, HasUnasked, EndsReading, IsStanding}
+use Rattle.whatif_commands.specs.declared.question.Question.{Question}
+use Rattle.whatif_commands.specs.declared.asking_stop.Unasked.{Unasked}
+use Rattle.whatif_commands.specs.declared.asking_stop.Unasked.TheVariants as unasked
 use Rattle.roster_model.specs.Denials.{IsAwarded}
 use Rattle.roster_model.specs.Scores.{bids_of}
 use Rattle.roster_model.specs.declared.award.Awarded.{Awarded}

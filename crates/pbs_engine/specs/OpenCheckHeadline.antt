@@ -13,8 +13,8 @@ use Rattle.month_files.specs.Reading.{Inputs, texts_in}
 use Rattle.month_files.specs.declared.file.File.TheVariants.{OpenNone, OpenCertificate, OpenReasons, OpenRoster}
 use Rattle.open_time.specs.Refuted.{IsOpenAward}
 use Rattle.open_time.specs.Vacant.{IsWithVacant, IsUnfilledUnder, NeedsVacant}
-use Rattle.plan_commands.specs.OpenChecking.{checking_order}
-use Rattle.plan_commands.specs.declared.open_check_stop.Unopened.{Unopened}
+use Rattle.open_commands.specs.OpenChecking.{checking_order}
+use Rattle.open_commands.specs.declared.open_check_stop.Unopened.{Unopened}
 use Rattle.roster_model.specs.declared.award.Awarded.{Awarded}
 use Rattle.roster_model.specs.declared.award.Certificate.TheVariants.{Award, NoRoster}
 use Rattle.roster_model.specs.declared.award.Denial.{Denial}

@@ -12,10 +12,10 @@ use Rattle.month_files.specs.declared.file.File.TheVariants.{OpenNone, OpenCerti
 use Rattle.open_time.specs.declared.fault.OpenFault.{OpenFault}
 use Rattle.open_time.specs.Refuted.{IsOpenAward}
 use Rattle.open_time.specs.Vacant.{IsWithVacant, IsUnfilledUnder, IsUnfilledWith, NeedsVacant}
-use Rattle.plan_commands.specs.OpenRows.{AreOpenRows}
-use Rattle.plan_commands.specs.Opening.{HasLedgerWith, IsSpent, opening_order}
-use Rattle.plan_commands.specs.declared.open_stop.OpenRow.{OpenRow}
-use Rattle.plan_commands.specs.declared.open_stop.Opening.TheVariants.{Award, NoRoster}
+use Rattle.open_commands.specs.OpenRows.{AreOpenRows}
+use Rattle.open_commands.specs.Opening.{HasLedgerWith, IsSpent, opening_order}
+use Rattle.open_commands.specs.declared.open_stop.OpenRow.{OpenRow}
+use Rattle.open_commands.specs.declared.open_stop.Opening.TheVariants.{Award, NoRoster}
 use Rattle.roster_model.specs.declared.award.Awarded.{Awarded}
 use Rattle.roster_model.specs.declared.award.Certificate.TheVariants as form
 use Rattle.roster_model.specs.declared.award.Denial.{Denial}

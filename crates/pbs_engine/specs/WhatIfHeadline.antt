@@ -9,8 +9,8 @@ use Rattle.month_commands.specs.Award.{OfMonth}
 use Rattle.month_files.specs.FileNames.{name_of, limit_of}
 use Rattle.month_files.specs.Handing.{FromReads}
 use Rattle.month_files.specs.declared.file.File.TheVariants.{OtherBids, OtherRoster}
-use Rattle.plan_commands.specs.Asking.{HasLaterLedger, HasUnasked, asking_order}
-use Rattle.plan_commands.specs.declared.asking_stop.Unasked.{Unasked}
+use Rattle.whatif_commands.specs.Asking.{HasLaterLedger, HasUnasked, asking_order}
+use Rattle.whatif_commands.specs.declared.asking_stop.Unasked.{Unasked}
 use Rattle.roster_model.specs.declared.problem.Problem.{Problem}
 use Rattle.roster_text.specs.ReasonWords.{member_named}
 use Rattle.roster_text.specs.RosterText.{roster_text}

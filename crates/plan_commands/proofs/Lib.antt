@@ -1,9 +1,0 @@
-pub mod Held
-pub mod Limits
-pub mod AskingEnds
-pub mod AskingRun
-pub mod AskingLaws
-pub mod SameBids
-pub mod Those
-pub mod OpeningLaws
-pub mod OpenCheckingLaws

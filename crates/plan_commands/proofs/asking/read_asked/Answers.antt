@@ -1,5 +1,0 @@
-use Rattle.plan_commands.proofs.AskingLaws.{two_more}
-use Rattle.plan_commands.proofs.asking.read_asked.Goals as goal
-
-pub returns-clause-logged : goal.returns-clause-logged
-returns-clause-logged g c = two_more _ _ _ _ _ _ _ c.in_ok-inputs.ensures.logged c.in_ok-certificate.ensures.logged c.in_ok-bids.ensures.logged

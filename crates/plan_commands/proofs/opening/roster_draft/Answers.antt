@@ -1,8 +1,0 @@
-use Rattle.std.proofs.Common.{◌≤◌, ℕ, List, length, subst}
-use Rattle.plan_commands.proofs.opening.roster_draft.Goals as goal
-
-pub returns-clause-readable : goal.returns-clause-readable
-returns-clause-readable c = record {
-  form = c.print_roster.ensures.valid;
-  fits = subst (λ (text : List ℕ). length text ≤ 67108864) c.in_ok-bytes.ensures.whole c.in_ok-bytes.ensures.short;
-}

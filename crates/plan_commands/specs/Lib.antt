@@ -1,9 +1,0 @@
-pub mod AskingEnds
-pub mod Asking
-pub mod AskingTexts
-pub mod OpenRows
-pub mod OpeningEnds
-pub mod Opening
-pub mod OpenCheckingEnds
-pub mod OpenCheckingTexts
-pub mod OpenChecking

@@ -1,0 +1,6 @@
+pub mod Held
+pub mod Limits
+pub mod AskingEnds
+pub mod AskingRun
+pub mod AskingLaws
+pub mod SameBids

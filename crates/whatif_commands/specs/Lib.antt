@@ -1,0 +1,3 @@
+pub mod AskingEnds
+pub mod Asking
+pub mod AskingTexts
