@@ -1,7 +1,7 @@
 -- Bids that compare equal are the same.
 use Rattle.std.proofs.Common.{◌≡◌, ◌∙◌, ℕ, Bool, true, false, List, [], ◌∷◌, refl, sym, ap, arith, ◌&&◌}
 use Rattle.std.specs.Prelude.{◌==◌}
-use Rattle.std.proofs.lemmas.Bool.{and_parts}
+use Rattle.std.proofs.lemmas.Bool.{and_parts, false≢true}
 use Rattle.std.proofs.lemmas.Bool.Decides.{nat_tests}
 use Rattle.std.specs.Cmp.Lexicographic.{pointwise}
 use Rattle.duty_calendar.specs.declared.weekday.Weekday.{Weekday}
@@ -38,8 +38,8 @@ lists_decided {A} eq each = record { same = same; itself = itself }
   where
     same : (xs ys : List A) → pointwise eq xs ys ≡ true → xs ≡ ys
     same [] [] h = refl
-    same [] (y ∷ ys) h = absurd cc
-    same (x ∷ xs) [] h = absurd cc
+    same [] (y ∷ ys) h = absurd (false≢true h)
+    same (x ∷ xs) [] h = absurd (false≢true h)
     same (x ∷ xs) (y ∷ ys) h =
         let p = and_parts (eq x y) (pointwise eq xs ys) h in
         ap (λ (z : A). z ∷ xs) (each.same x y p.0) ∙ ap (λ (zs : List A). y ∷ zs) (same xs ys p.1)
@@ -59,7 +59,7 @@ weekday_same Thu Thu h = refl
 weekday_same Fri Fri h = refl
 weekday_same Sat Sat h = refl
 weekday_same Sun Sun h = refl
-weekday_same a b h = absurd cc
+weekday_same a b h = absurd (false≢true h)
 
 weekday_itself : (a : Weekday) → weekday.eq-value.it a a ≡ true
 weekday_itself Mon = refl
@@ -81,7 +81,7 @@ test_same (ReleaseAfter c) (ReleaseAfter d) h = ap (λ (x : ℕ). ReleaseAfter x
 test_same (Days n) (Days m) h = ap (λ (x : ℕ). Days x) (same_number n m h)
 test_same (OnWeekday v) (OnWeekday w) h = ap (λ (x : Weekday). OnWeekday x) (weekday_same v w h)
 test_same (Is q) (Is r) h = ap (λ (x : ℕ). Is x) (same_number q r h)
-test_same a b h = absurd cc
+test_same a b h = absurd (false≢true h)
 
 test_itself : (a : Test) → test.eq-value.it a a ≡ true
 test_itself (Layover s) = stations_decided.itself s
@@ -101,7 +101,7 @@ marked flag t = record { negated = flag; test = t }
 atom_same : (a b : Bool) (s t : Test) → atom.eq-value.it (marked a s) (marked b t) ≡ true → marked a s ≡ marked b t
 atom_same true true s t h = ap (marked true) (test_same s t h)
 atom_same false false s t h = ap (marked false) (test_same s t h)
-atom_same a b s t h = absurd cc
+atom_same a b s t h = absurd (false≢true h)
 
 atom_itself : (a : Bool) (s : Test) → atom.eq-value.it (marked a s) (marked a s) ≡ true
 atom_itself true s = test_itself s
@@ -125,7 +125,7 @@ wish_same (Off a b) (Off c d) h =
 wish_same (CreditBelow m) (CreditBelow n) h = ap (λ (x : ℕ). CreditBelow x) (same_number m n h)
 wish_same (CreditAbove m) (CreditAbove n) h = ap (λ (x : ℕ). CreditAbove x) (same_number m n h)
 wish_same (DaysOff m) (DaysOff n) h = ap (λ (x : ℕ). DaysOff x) (same_number m n h)
-wish_same a b h = absurd cc
+wish_same a b h = absurd (false≢true h)
 
 wish_itself : (a : Wish) → wish.eq-value.it a a ≡ true
 wish_itself (Fly p) = number_itself p
