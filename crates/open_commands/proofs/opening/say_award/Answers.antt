@@ -13,8 +13,8 @@ award_drafts-requires-clause-accepted c =
     award_of c.args.problem.now c.args.count c.args.none c.args.roster.now c.args.reasons.now c.args.awarded c.in_ok-made.made c.requires.award c.in_ok-made.ensures.made
 
 pub show_roster-requires-clause-complete : goal.show_roster-requires-clause-complete
-show_roster-requires-clause-complete c = (award_of c.args.problem.now c.args.count c.args.none c.args.roster.now c.args.reasons.now c.args.awarded c.in_ok-made.made c.requires.award
-c.in_ok-made.ensures.made).best.complete
+show_roster-requires-clause-complete c =
+    (award_of c.args.problem.now c.args.count c.args.none c.args.roster.now c.args.reasons.now c.args.awarded c.in_ok-made.made c.requires.award c.in_ok-made.ensures.made).best.complete
 
 pub returns : goal.returns
 returns c =

@@ -20,3 +20,8 @@ returns-in_err-awarded-clause-unasked c =
       member = c.in-Some.member;
       named = sym c.in-Some.ensures.value;
     }))
+
+pub returns-in_err-other-clause-unasked : goal.returns-in_err-other-clause-unasked
+returns-in_err-other-clause-unasked c =
+    let p = err_from_is_err_and c.from_residual-in_err-other.result c.from_residual-in_err-other.ensures.1 in
+    rw (p.1, p.2) (c.in_err-other.ensures.unasked c.args.name.now)
