@@ -39,7 +39,7 @@ judge_open-requires-clause-countable_shown c = countable_parts c.args.awarded.no
 
 pub returns-in_err-judge_open : goal.returns-in_err-judge_open
 returns-in_err-judge_open c =
-    let p = err_from_is_err_and c.from_residual-in_err-judge_open.result c.from_residual-in_err-judge_open.ensures.1 in
+    let p = err_from_is_err_and c.from_residual.result c.from_residual.ensures.1 in
     let problem = c.args.problem.now in
     let count = c.args.count in
     let roster = c.args.roster.now in
