@@ -9,7 +9,7 @@ use Rattle.open_commands.proofs.open_checking.judge_proofs.Goals as goal
 
 pub returns-in_err-reasons : goal.returns-in_err-reasons
 returns-in_err-reasons c =
-    let p = err_from_is_err_and c.from_residual-in_err-reasons.result c.from_residual-in_err-reasons.ensures.1 in
+    let p = err_from_is_err_and c.from_residual.result c.from_residual.ensures.1 in
     record {
       end = rw (p.1, p.2) (ends_at_reasons c.args.problem.now c.args.count (view_lodged c.args.texts.now) c.args.made.now c.args.none.now c.args.awarded.now c.requires.says
           c.in_err-reasons.field-0.0 c.in_err-reasons.field-0.0.code refl
