@@ -71,45 +71,39 @@ fn low_and_high(alloc: Global) -> Result<Graph<Span>, Memory> {
     Ok(graph)
 }
 
-/// Sets labels of any resource, by its bound alone.
-fn best_from<R: Resource, L: Ledger>(
-    alloc: Global,
-    graph: &Graph<R>,
-    blank: Blank,
-) -> Result<Option<Priced>, Memory>
-    requires name { blank.name ≡ L.name }
-    requires parts { blank.parts ≡ L.parts }
-    requires some { 0 < blank.parts }
-{
-    let mut steps: Steps<L> = Steps::new(blank);
-    set_labels(alloc, graph, &mut steps)
+/// What is found by the bound alone, in bounded room, and there with arcs.
+#[derive(Drop)]
+struct Searched {
+    best: Result<Option<Priced>, Memory>,
+    inside: Result<Option<Priced>, SetterFault>,
+    traced: Result<Option<Traced>, SetterFault>,
 }
 
-/// The same in bounded room.
-fn best_in_from<R: Resource, L: Ledger>(
+/// Sets labels of any resource in each way.
+fn found_from<R: Resource, L: Ledger>(
     alloc: Global,
     graph: &Graph<R>,
     room: u32,
     blank: Blank,
-) -> Result<Option<Priced>, SetterFault>
+) -> Searched
     requires name { blank.name ≡ L.name }
     requires parts { blank.parts ≡ L.parts }
     requires some { 0 < blank.parts }
 {
     let mut steps: Steps<L> = Steps::new(blank);
-    set_labels_in(alloc, graph, room, &mut steps)
+    Searched {
+        best: set_labels(alloc, graph, &mut steps),
+        inside: set_labels_in(alloc, graph, room, &mut steps),
+        traced: trace_labels_in(alloc, graph, room, &mut steps),
+    }
+}
+
+fn found<R: Resource>(alloc: Global, graph: &Graph<R>, room: u32) -> Searched {
+    found_from::<R, Brand>(alloc, graph, room, Blank::new(1))
 }
 
 fn best<R: Resource>(alloc: Global, graph: &Graph<R>) -> Result<Option<Priced>, Memory> {
-    best_from::<R, Brand>(alloc, graph, Blank::new(1))
-}
-
-fn best_in<R: Resource>(
-    alloc: Global,
-    graph: &Graph<R>,
-    room: u32,
-) -> Result<Option<Priced>, SetterFault> {
-    best_in_from::<R, Brand>(alloc, graph, room, Blank::new(1))
+    found(alloc, graph, 100).best
 }
 
 fn is(answer: &Option<Priced>, gain: i64, chain: &[u32]) -> bool {
@@ -141,9 +135,9 @@ fn keeps_the_label_that_comes_higher(rt: HostRuntime) {
 fn says_where_the_room_ends(rt: HostRuntime) {
     let alloc = rt.alloc();
     let graph = two_ways(alloc, 4).expect(&rt, "memory");
-    assert!(rt; matches!(best_in(alloc, &graph, 1), Err(SetterFault::Room(1))));
-    assert!(rt; matches!(best_in(alloc, &graph, 3), Err(SetterFault::Room(3))));
-    let answer = best_in(alloc, &graph, 4).expect(&rt, "room");
+    assert!(rt; matches!(found(alloc, &graph, 1).inside, Err(SetterFault::Room(1))));
+    assert!(rt; matches!(found(alloc, &graph, 3).inside, Err(SetterFault::Room(3))));
+    let answer = found(alloc, &graph, 4).inside.expect(&rt, "room");
     assert!(rt; is(&answer, 7, &[0, 1, 2]));
 }
 
@@ -178,30 +172,7 @@ impl Meter<Least> for Used {
     }
 }
 
-/// Traces labels of any resource in bounded room.
-fn trace_in_from<R: Resource, L: Ledger>(
-    alloc: Global,
-    graph: &Graph<R>,
-    room: u32,
-    blank: Blank,
-) -> Result<Option<Traced>, SetterFault>
-    requires name { blank.name ≡ L.name }
-    requires parts { blank.parts ≡ L.parts }
-    requires some { 0 < blank.parts }
-{
-    let mut steps: Steps<L> = Steps::new(blank);
-    trace_labels_in(alloc, graph, room, &mut steps)
-}
-
-fn trace_in<R: Resource>(
-    alloc: Global,
-    graph: &Graph<R>,
-    room: u32,
-) -> Result<Option<Traced>, SetterFault> {
-    trace_in_from::<R, Brand>(alloc, graph, room, Blank::new(1))
-}
-
-/// The same above a bound.
+/// Traces labels of any resource above a bound, in bounded room.
 fn over_from<R: Resource, B: Rest<R>, L: Ledger>(
     alloc: Global,
     graph: &Graph<R>,
@@ -271,15 +242,21 @@ fn is_trace(answer: &Option<Traced>, gain: i64, arcs: &[u32]) -> bool {
 fn traces_arcs(rt: HostRuntime) {
     let alloc = rt.alloc();
     let graph = two_ways(alloc, 4).expect(&rt, "memory");
-    assert!(rt; matches!(trace_in(alloc, &graph, 1), Err(SetterFault::Room(1))));
-    assert!(rt; is_trace(&trace_in(alloc, &graph, 4).expect(&rt, "room"), 7, &[0, 1]));
+    assert!(rt; matches!(found(alloc, &graph, 1).traced, Err(SetterFault::Room(1))));
+    assert!(rt;
+        is_trace(
+            &found(alloc, &graph, 4).traced.expect(&rt, "room"),
+            7,
+            &[0, 1]
+        )
+    );
 }
 
 #[test]
 fn meters_what_may_still_be_gained(rt: HostRuntime) {
     let alloc = rt.alloc();
-    assert_eq!(rt; most_from_the_source(alloc, 3).expect(&rt, "memory"), 5);
-    assert_eq!(rt; most_from_the_source(alloc, 4).expect(&rt, "memory"), 7);
+    assert!(rt; most_from_the_source(alloc, 3).expect(&rt, "memory") == 5);
+    assert!(rt; most_from_the_source(alloc, 4).expect(&rt, "memory") == 7);
 }
 
 #[test]

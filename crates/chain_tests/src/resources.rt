@@ -7,7 +7,19 @@ use label_lattice::{
 use std::marker::Brand;
 use std::sync::ledger::{Blank, Ledger};
 
-/// Extends twice, by the resource's own rule alone.
+/// Whether it comes to that by two steps, by the resource's own rule alone.
+fn comes_to<R: Resource + PartialEq>(start: R, first: R::Step, second: R::Step, due: R) -> bool {
+    match after_two(start, first, second) {
+        Some(found) => found == due,
+        None => false,
+    }
+}
+
+/// Whether one of two steps can't be taken.
+fn stops<R: Resource>(start: R, first: R::Step, second: R::Step) -> bool {
+    after_two(start, first, second).is_none()
+}
+
 fn after_two<R: Resource>(start: R, first: R::Step, second: R::Step) -> Option<R> {
     start.extend(&first)?.extend(&second)
 }
@@ -20,18 +32,19 @@ fn is_below<L: Lattice>(first: L, second: L) -> bool {
     first.below(&second)
 }
 
-fn greatest_below<L: Lattice>(first: L, second: L) -> L {
-    first.meet(&second)
+/// Whether that is the greatest lower bound of the two.
+fn is_meet<L: Lattice + PartialEq>(first: L, second: L, due: L) -> bool {
+    first.meet(&second) == due
 }
 
 #[test]
 fn least_adds_up_to_its_cap(rt: HostRuntime) {
     let start = Least { value: 0 };
     let step = LeastStep { add: 2, cap: 4 };
-    assert_eq!(rt; after_two(start, step, step), Some(Least { value: 4 }));
-    assert_eq!(rt; after_two(start, step, LeastStep { add: 2, cap: 3 }), None);
+    assert!(rt; comes_to(start, step, step, Least { value: 4 }));
+    assert!(rt; stops(start, step, LeastStep { add: 2, cap: 3 }));
     assert!(rt; is_below(start, Least { value: 4 }));
-    assert_eq!(rt; greatest_below(Least { value: 4 }, start), start);
+    assert!(rt; is_meet(Least { value: 4 }, start, start));
     assert!(rt; meets(start, ()));
 }
 
@@ -46,23 +59,19 @@ fn latest_renews(rt: HostRuntime) {
         renew: Some(9),
         least: 9,
     };
-    assert_eq!(rt; after_two(start, keeps, renews), Some(Latest { value: 9 }));
-    assert_eq!(rt;
-        after_two(
+    assert!(rt; comes_to(start, keeps, renews, Latest { value: 9 }));
+    assert!(rt;
+        stops(
             start,
             keeps,
             LatestStep {
                 renew: Some(3),
                 least: 6
             }
-        ),
-        None
+        )
     );
     assert!(rt; !is_below(start, Latest { value: 9 }));
-    assert_eq!(rt;
-        greatest_below(Latest { value: 9 }, start),
-        Latest { value: 9 }
-    );
+    assert!(rt; is_meet(Latest { value: 9 }, start, Latest { value: 9 }));
     assert!(rt; meets(start, ()));
 }
 
@@ -77,15 +86,19 @@ fn span_stops_at_its_greatest_sum(rt: HostRuntime) {
         up: 1,
         cap: 3,
     };
-    assert_eq!(rt;
-        after_two(start, step, step),
-        Some(Span {
-            down: 3,
-            up: 2_147_483_648
-        })
+    assert!(rt;
+        comes_to(
+            start,
+            step,
+            step,
+            Span {
+                down: 3,
+                up: 2_147_483_648
+            }
+        )
     );
-    assert_eq!(rt;
-        after_two(
+    assert!(rt;
+        stops(
             start,
             step,
             SpanStep {
@@ -93,15 +106,17 @@ fn span_stops_at_its_greatest_sum(rt: HostRuntime) {
                 up: 0,
                 cap: 3
             }
-        ),
-        None
+        )
     );
     assert!(rt; meets(start, SpanEnd { low: 2_147_483_647 }));
     assert!(rt; !meets(start, SpanEnd { low: 2_147_483_648 }));
     assert!(rt; !is_below(Span { down: 1, up: 1 }, Span { down: 2, up: 2 }));
-    assert_eq!(rt;
-        greatest_below(Span { down: 1, up: 1 }, Span { down: 2, up: 2 }),
-        Span { down: 1, up: 2 }
+    assert!(rt;
+        is_meet(
+            Span { down: 1, up: 1 },
+            Span { down: 2, up: 2 },
+            Span { down: 1, up: 2 }
+        )
     );
 }
 
@@ -109,14 +124,14 @@ fn span_stops_at_its_greatest_sum(rt: HostRuntime) {
 fn mask_clears_before_it_sets(rt: HostRuntime) {
     let start = Mask { bits: 6 };
     let step = MaskStep { clear: 3, set: 1 };
-    assert_eq!(rt; after_two(start, step, step), Some(Mask { bits: 5 }));
+    assert!(rt; comes_to(start, step, step, Mask { bits: 5 }));
     let mut weights = [0; 64];
     weights[0] = 7;
     weights[63] = 2;
     assert!(rt; meets(start, MaskEnd { weights, floor: 9 }));
     assert!(rt; !meets(Mask { bits: 1 }, MaskEnd { weights, floor: 3 }));
     assert!(rt; is_below(Mask { bits: 2 }, start));
-    assert_eq!(rt; greatest_below(Mask { bits: 3 }, start), Mask { bits: 2 });
+    assert!(rt; is_meet(Mask { bits: 3 }, start, Mask { bits: 2 }));
 }
 
 #[test]
@@ -128,21 +143,28 @@ fn usage_holds_each_counter_to_its_cap(rt: HostRuntime) {
         amounts: [1, 0],
         caps: [2, 4_294_967_295],
     };
-    assert_eq!(rt;
-        after_two(start, step, step),
-        Some(Usage {
-            counters: [2, 4_294_967_295]
-        })
+    assert!(rt;
+        comes_to(
+            start,
+            step,
+            step,
+            Usage {
+                counters: [2, 4_294_967_295]
+            }
+        )
     );
     let passes = UsageStep {
         amounts: [0, 1],
         caps: [2, 4_294_967_295],
     };
-    assert_eq!(rt; after_two(start, step, passes), None);
+    assert!(rt; stops(start, step, passes));
     assert!(rt; is_below(Usage { counters: [1, 2] }, Usage { counters: [1, 3] }));
-    assert_eq!(rt;
-        greatest_below(Usage { counters: [1, 3] }, Usage { counters: [2, 2] }),
-        Usage { counters: [1, 2] }
+    assert!(rt;
+        is_meet(
+            Usage { counters: [1, 3] },
+            Usage { counters: [2, 2] },
+            Usage { counters: [1, 2] }
+        )
     );
     assert!(rt; meets(start, ()));
 }
@@ -173,17 +195,20 @@ fn pair_asks_both_parts(rt: HostRuntime) {
         first: Least { value: 2 },
         second: Mask { bits: 2 },
     };
-    assert_eq!(rt; after_two(start, step, step), Some(both));
+    assert!(rt; comes_to(start, step, step, both));
     let weights = [1; 64];
     assert!(rt; meets(both, ((), MaskEnd { weights, floor: 63 })));
     assert!(rt; !meets(both, ((), MaskEnd { weights, floor: 64 })));
     assert!(rt; !is_below(both, start));
-    assert_eq!(rt;
-        greatest_below(both, start),
-        Pair {
-            first: Least { value: 0 },
-            second: Mask { bits: 0 }
-        }
+    assert!(rt;
+        is_meet(
+            both,
+            start,
+            Pair {
+                first: Least { value: 0 },
+                second: Mask { bits: 0 }
+            }
+        )
     );
 }
 
@@ -206,18 +231,25 @@ fn pause_waits_for_the_end_of_work(rt: HostRuntime) {
         busy: 0,
         free: 30,
     };
-    assert_eq!(rt;
-        after_two(start, works, rests),
-        Some(Pause {
-            latest: 30,
-            busy: 0
-        })
+    assert!(rt;
+        comes_to(
+            start,
+            works,
+            rests,
+            Pause {
+                latest: 30,
+                busy: 0
+            }
+        )
     );
-    assert_eq!(rt; after_two(start, rests, works), None);
+    assert!(rt; stops(start, rests, works));
     assert!(rt; is_below(Pause { latest: 2, busy: 3 }, Pause { latest: 1, busy: 4 }));
-    assert_eq!(rt;
-        greatest_below(Pause { latest: 2, busy: 5 }, Pause { latest: 1, busy: 4 }),
-        Pause { latest: 2, busy: 4 }
+    assert!(rt;
+        is_meet(
+            Pause { latest: 2, busy: 5 },
+            Pause { latest: 1, busy: 4 },
+            Pause { latest: 2, busy: 4 }
+        )
     );
     assert!(rt; meets(start, ()));
 }
@@ -246,14 +278,14 @@ fn daily_counts_a_day_once(rt: HostRuntime) {
         count: 3,
         today: false,
     };
-    assert_eq!(rt; after_two(start, first, second), Some(three));
-    assert_eq!(rt; after_two(start, first, first), None);
+    assert!(rt; comes_to(start, first, second, three));
+    assert!(rt; stops(start, first, first));
     let busy = Daily {
         count: 2,
         today: true,
     };
     assert!(rt; is_below(busy, three));
-    assert_eq!(rt; greatest_below(three, busy), busy);
+    assert!(rt; is_meet(three, busy, busy));
     assert!(rt; meets(start, ()));
 }
 
@@ -283,5 +315,5 @@ fn count_two<L: Ledger>(blank: Blank)
 #[test]
 fn steps_take_no_bytes(rt: HostRuntime) {
     count_two::<Brand>(Blank::new(1));
-    assert_eq!(rt; size_of::<Steps<Brand>>(), 0);
+    assert!(rt; size_of::<Steps<Brand>>() == 0);
 }
