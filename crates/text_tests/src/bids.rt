@@ -1,68 +1,41 @@
 //! A month of one member, whose bid is written and read.
-ghost use Rattle.std.specs.Prelude.{◌≡◌, ℕ, length};
-ghost use Rattle.duty_calendar.specs.declared.horizon.Horizon.{Horizon as Month};
-ghost use Rattle.duty_calendar.specs.Checks.{IsRules, IsMember};
-ghost use Rattle.roster_model.specs.Scores.{bids_of};
-ghost use Rattle.roster_model.specs.Valid.{IsBid};
 
-use crate::fixtures::{member, one, rules};
+use crate::fixtures::{File, month_with};
 use bid_language::{print_bids, put_bid, read_bids};
-use duty_calendar::{Base, List, Member, Name, Rules};
-use roster_model::{Bid, BidRef, Problem, Wish};
+use duty_calendar::List;
+use roster_model::{BidRef, Problem};
 use std::alloc::Global;
 use std::process::Abort;
 
-/// A bid for twelve days off.
-fn bid() -> Bid
-    ensures form { (h : Month) (pairings : ℕ) → IsBid h pairings result }
-{
-    Bid {
-        weight: 3,
-        wish: Wish::DaysOff(12),
-    }
+/// No pairing, and a bid for twelve days off.
+const RESTING: [File; 4] = [
+    ("pairings.csv", "pairing,need,credit\n"),
+    ("duties.csv", "pairing,no,report,parked,release,layover\n"),
+    ("legs.csv", "pairing,no,from,to,out,in\n"),
+    ("bids.txt", "member M1\n3 daysoff 12\n"),
+];
+
+/// Says how the one bid of a month is put.
+fn assert_bid(rt: &impl Abort, alloc: Global, problem: &Problem, due: &[u8]) {
+    assert!(rt; problem.base.members.len() == 1);
+    assert!(rt; problem.bids.as_slice()[0].len() == 1);
+    let mut text = List::new(alloc);
+    put_bid(&mut text, problem, BidRef { member: 0, bid: 0 }).expect(rt, "memory");
+    assert!(rt; text.as_slice() == due);
 }
 
-/// A month at a base, with one member, one bid and no pairing.
-fn month(rt: &impl Abort, alloc: Global, rules: Rules, who: Member, wanted: Bid) -> Problem
-    requires rules { IsRules rules }
-    requires who { IsMember rules.horizon who }
-    requires wanted { IsBid rules.horizon 0 wanted }
-    ensures members { length result.base.members ≡ 1 }
-    ensures bids { length (bids_of result 0) ≡ 1 }
-{
-    let members = one(rt, alloc, who);
-    let bids = one(rt, alloc, one(rt, alloc, wanted));
-    let base = Base {
-        rules,
-        pairings: List::new(alloc),
-        members,
-    };
-    Problem { base, bids }
-}
-
-/// June 2026 in Dublin, where ten days off are due.
-fn june(rt: &impl Abort, alloc: Global) -> Problem
-    ensures members { length result.base.members ≡ 1 }
-    ensures bids { length (bids_of result 0) ≡ 1 }
-{
-    let who = Name::new(b"M1").expect(rt, "a name");
-    month(rt, alloc, rules(rt, alloc, 10), member(alloc, who), bid())
+/// Says how the bids of a month are printed, and that they are read from that.
+fn assert_bids(rt: &impl Abort, alloc: Global, problem: &Problem, due: &[u8]) {
+    let text = print_bids(alloc, problem).expect(rt, "memory");
+    assert!(rt; text.as_slice() == due);
+    assert!(rt; due.len() <= 100);
+    let bids = read_bids(alloc, due, &problem.base).expect(rt, "bids");
+    assert!(rt; bids == problem.bids);
 }
 
 #[test]
 fn a_bid_is_put_and_read(rt: HostRuntime) {
-    let alloc = rt.alloc();
-    let problem = june(&rt, alloc);
-    let mut text = List::new(alloc);
-    put_bid(&mut text, &problem, BidRef { member: 0, bid: 0 }).expect(&rt, "memory");
-    assert!(rt; text.as_slice() == b"3 daysoff 12".as_slice());
-    let all = print_bids(alloc, &problem).expect(&rt, "memory");
-    assert!(rt; all.as_slice() == b"member M1\n3 daysoff 12\n".as_slice());
-    let bids = read_bids(
-        alloc,
-        b"member M1\n3 daysoff 12\n".as_slice(),
-        &problem.base,
-    )
-    .expect(&rt, "bids");
-    assert!(rt; bids == problem.bids);
+    let problem = month_with(&rt, rt.alloc(), &RESTING);
+    assert_bid(&rt, rt.alloc(), &problem, b"3 daysoff 12");
+    assert_bids(&rt, rt.alloc(), &problem, b"member M1\n3 daysoff 12\n");
 }

@@ -1,14 +1,12 @@
 //! The calendar of the smallest month, other spellings of calendars, and what a calendar's text may not be.
 ghost use Rattle.std.specs.Prelude.{◌≡◌, ◌<◌, length, All};
 
-use crate::fixtures::one;
-use crate::rosters::june;
-use crew_calendar::{
-    CalendarCode, CalendarFault, calendar_laws, calendar_of, print_calendar, read_calendar,
-};
-use duty_calendar::List;
-use field_text::put_bytes;
-use roster_model::{Line, Problem, Roster};
+use crate::fixtures::smallest;
+use crate::rosters::roster_of;
+use crate::rows::{bytes_of, sides};
+use crate::texts::joined;
+use crew_calendar::{calendar_laws, calendar_of, print_calendar, read_calendar};
+use roster_model::{Problem, Roster};
 use std::alloc::Global;
 use std::process::Abort;
 
@@ -48,7 +46,7 @@ fn assert_calendar(rt: &impl Abort, alloc: Global, problem: &Problem, roster: &R
     let calendar = calendar_of(alloc, problem, roster, 0).expect(rt, "memory");
     assert!(rt; calendar.entries.len() == 1);
     let printed = print_calendar(alloc, &calendar).expect(rt, "memory");
-    assert_eq!(rt; printed.as_slice(), text);
+    assert!(rt; printed.as_slice() == text);
     assert!(rt; text.len() <= 1000);
     let read = read_calendar(alloc, text).expect(rt, "a calendar");
     assert!(rt; read == calendar);
@@ -57,9 +55,10 @@ fn assert_calendar(rt: &impl Abort, alloc: Global, problem: &Problem, roster: &R
 #[test]
 fn prints_and_reads_the_smallest_month(rt: HostRuntime) {
     let alloc = rt.alloc();
-    let problem = june(&rt, alloc);
-    let line = Line::new(one(&rt, alloc, 0)).expect(&rt, "a line");
-    let roster: Roster = one(&rt, alloc, line);
+    let problem = smallest(&rt, alloc);
+    assert!(rt; problem.base.members.len() == 1);
+    let text = b"member,pairings,credit,score\nM1,P1,5:00,10\n";
+    let roster = roster_of(&rt, alloc, &problem, text);
     assert_calendar(&rt, alloc, &problem, &roster, FLYING);
     calendar_laws();
 }
@@ -71,7 +70,7 @@ fn assert_alike(rt: &impl Abort, alloc: Global, text: &[u8], other: &[u8]) {
     let same = read_calendar(alloc, other).expect(rt, "a calendar");
     assert!(rt; same == calendar);
     let printed = print_calendar(alloc, &calendar).expect(rt, "memory");
-    assert_eq!(rt; printed.as_slice(), text);
+    assert!(rt; printed.as_slice() == text);
 }
 
 #[test]
@@ -79,94 +78,73 @@ fn folds_behind_75_bytes(rt: HostRuntime) {
     assert_alike(&rt, rt.alloc(), FOLDED, SPELT);
 }
 
-/// Texts in two parts that are no calendar's, with their faults.
-static FAULTS: [(&[u8], &[u8], u32, CalendarCode); 25] = [
-    (b"", b"", 1, CalendarCode::Break),
-    (b"", b"BEGIN:VCALENDAR", 1, CalendarCode::Break),
-    (b"", b"BEGIN:VCALENDAR\n", 1, CalendarCode::Break),
-    (b"", b"BEGIN:VCALENDAR\r", 1, CalendarCode::Break),
-    (
-        b"",
-        b"BEGIN:VCALENDAR\nVERSION:2.0\r\n",
-        1,
-        CalendarCode::Break,
-    ),
-    (b"", b"begin:VCALENDAR\r\n", 1, CalendarCode::Name),
-    (
-        b"BEGIN:VCALENDAR\r\n",
-        b"VERSION:1.0\r\n",
-        2,
-        CalendarCode::Name,
-    ),
-    (HEAD, b"", 4, CalendarCode::Name),
-    (HEAD, b"END:VCALENDAR\r\n", 4, CalendarCode::Name),
-    (
-        HEAD,
-        b"BEGIN:VEVENT\r\nSUMMARY:P1\r\n",
-        5,
-        CalendarCode::Name,
-    ),
-    (OPENED, b"UID:a,b\r\n", 5, CalendarCode::Value),
-    (OPENED, b"UID:a;b\r\n", 5, CalendarCode::Value),
-    (OPENED, b"UID:a\\nb\r\n", 5, CalendarCode::Value),
-    (OPENED, b"UID:a\\\r\n", 5, CalendarCode::Value),
-    (OPENED, b"UID:\x7f\r\n", 5, CalendarCode::Value),
-    (OPENED, b"UID:a\nb\r\n", 5, CalendarCode::Break),
-    (
-        NAMED,
-        b"DTSTAMP:20260631T000000Z\r\n",
-        6,
-        CalendarCode::Value,
-    ),
-    (
-        NAMED,
-        b"DTSTAMP:20260601T240000Z\r\n",
-        6,
-        CalendarCode::Value,
-    ),
-    (
-        NAMED,
-        b"DTSTAMP:20260601T000001Z\r\n",
-        6,
-        CalendarCode::Value,
-    ),
-    (
-        NAMED,
-        b"DTSTAMP:20260601T000000\r\n",
-        6,
-        CalendarCode::Value,
-    ),
-    (ENTRY, b"", 12, CalendarCode::Name),
-    (
-        ENTRY,
-        b"BEGIN:VEVENT\r\nUID:b\r\nDTSTAMP:20260602T000000Z\r\n",
-        14,
-        CalendarCode::Value,
-    ),
-    (FLYING, b"\r\n", 13, CalendarCode::Rest),
-    (FLYING, b"BEGIN:VEVENT\r\n", 13, CalendarCode::Rest),
-    (FLYING, b"\n", 13, CalendarCode::Break),
-];
+/// Texts that are no calendar's, with their faults.
+const BARE: &str = r" => line 1: a broken line
+BEGIN:VCALENDAR => line 1: a broken line
+BEGIN:VCALENDAR\n => line 1: a broken line
+BEGIN:VCALENDAR\r => line 1: a broken line
+BEGIN:VCALENDAR\nVERSION:2.0\r\n => line 1: a broken line
+begin:VCALENDAR\r\n => line 1: another line is due
+BEGIN:VCALENDAR\r\nVERSION:1.0\r\n => line 2: another line is due";
 
-/// Says what is the first fault of a calendar's text in two parts.
-fn assert_fault(rt: &impl Abort, alloc: Global, front: &[u8], back: &[u8], fault: CalendarFault) {
-    let mut text = List::new(alloc);
-    put_bytes(&mut text, front).expect(rt, "memory");
-    put_bytes(&mut text, back).expect(rt, "memory");
+/// What may not follow the first three lines.
+const BEHIND_HEAD: &str = r" => line 4: another line is due
+END:VCALENDAR\r\n => line 4: another line is due
+BEGIN:VEVENT\r\nSUMMARY:P1\r\n => line 5: another line is due";
+
+/// What may not follow the first four lines.
+const BEHIND_OPENED: &str = r"UID:a,b\r\n => line 5: not a value of the property
+UID:a;b\r\n => line 5: not a value of the property
+UID:a\5Cnb\r\n => line 5: not a value of the property
+UID:a\5C\r\n => line 5: not a value of the property
+UID:\7F\r\n => line 5: not a value of the property
+UID:a\nb\r\n => line 5: a broken line";
+
+/// What may not follow the first five lines.
+const BEHIND_NAMED: &str = r"DTSTAMP:20260631T000000Z\r\n => line 6: not a value of the property
+DTSTAMP:20260601T240000Z\r\n => line 6: not a value of the property
+DTSTAMP:20260601T000001Z\r\n => line 6: not a value of the property
+DTSTAMP:20260601T000000\r\n => line 6: not a value of the property";
+
+/// What may not follow the first entry.
+const BEHIND_ENTRY: &str = r" => line 12: another line is due
+BEGIN:VEVENT\r\nUID:b\r\nDTSTAMP:20260602T000000Z\r\n => line 14: not a value of the property";
+
+/// What may not follow a calendar.
+const BEHIND_FLYING: &str = r"\r\n => line 13: a line behind the calendar
+BEGIN:VEVENT\r\n => line 13: a line behind the calendar
+\n => line 13: a broken line";
+
+/// Says what is the first fault of a calendar's text.
+fn assert_fault(rt: &impl Abort, alloc: Global, text: &[u8], due: &str) {
     assert!(rt; text.len() <= 1000);
-    let read = read_calendar(alloc, text.as_slice());
-    assert_eq!(rt; read.err(), Some(fault));
+    let fault = read_calendar(alloc, text)
+        .err()
+        .expect(rt, "it has a fault");
+    let found = format!(in alloc; "{fault}").expect(rt, "memory");
+    assert!(rt; found.as_str() == due, "{found}");
 }
 
-/// Says that each row of the table has its fault.
-fn assert_faults(rt: &impl Abort, alloc: Global) {
-    for (front, back, line, code) in FAULTS {
-        let fault = CalendarFault { line, code };
-        assert_fault(rt, alloc, front, back, fault);
+/// Says what is the fault of each row behind a text.
+fn assert_faults(rt: &impl Abort, alloc: Global, front: &[u8], rows: &str) {
+    for row in rows.lines() {
+        let (text, due) = sides(rt, row);
+        assert_fault(
+            rt,
+            alloc,
+            &joined(alloc, front, &bytes_of(alloc, text)),
+            due,
+        );
     }
 }
 
 #[test]
 fn says_the_first_fault_of_a_calendar(rt: HostRuntime) {
-    assert_faults(&rt, rt.alloc());
+    let alloc = rt.alloc();
+    assert_faults(&rt, alloc, b"", BARE);
+    assert_faults(&rt, alloc, HEAD, BEHIND_HEAD);
+    assert_faults(&rt, alloc, OPENED, BEHIND_OPENED);
+    assert_faults(&rt, alloc, NAMED, BEHIND_NAMED);
+    assert_faults(&rt, alloc, ENTRY, BEHIND_ENTRY);
+    assert_faults(&rt, alloc, FLYING, BEHIND_FLYING);
 }

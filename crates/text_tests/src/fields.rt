@@ -3,6 +3,7 @@ ghost use Rattle.csv.specs.Records.{fields_of};
 ghost use Rattle.field_text.specs.Records.{AreWithin};
 ghost use Rattle.field_text.specs.Sizes.{longest};
 
+use crate::rows::sides;
 use csv::ByteRecord;
 use duty_calendar::{Horizon, List};
 use field_text::{
@@ -64,123 +65,94 @@ fn word(text: &str, is_name: bool) -> Read {
     Ok(read_station(text)?.bytes().len() as u32)
 }
 
-/// Says what was read of a text.
-fn assert_read(rt: &impl Abort, text: &str, read: Read, want: Read) {
-    assert_eq!(rt; read, want, "at {text}");
-}
-
-static NUMBERS: [(&str, Read); 8] = [
-    ("0", Ok(0)),
-    ("4294967295", Ok(4_294_967_295)),
-    ("4294967296", Err(FieldFault::Range)),
-    ("", Err(FieldFault::Empty)),
-    ("01", Err(FieldFault::Shape(2))),
-    ("+1", Err(FieldFault::Shape(1))),
-    ("-1", Err(FieldFault::Shape(1))),
-    ("12x", Err(FieldFault::Shape(3))),
-];
-
-#[test]
-fn numbers_are_read(rt: HostRuntime) {
-    for (text, want) in NUMBERS {
-        assert_read(&rt, text, number(text), want);
+/// What is read of a text of a kind.
+fn read_of(rt: &impl Abort, kind: &str, text: &str) -> Read {
+    match kind {
+        "number" => number(text),
+        "minutes" => minutes(text),
+        "clock" => clock(text),
+        "day" => day(text),
+        "moment" => moment(text, &Horizon::new(2026, 6, 60).expect(rt, "June 2026")),
+        _ => word(text, kind == "name"),
     }
 }
 
-static MINUTES: [(&str, Read); 11] = [
-    ("0:00", Ok(0)),
-    ("75:30", Ok(4530)),
-    ("999:59", Ok(59999)),
-    ("8:60", Err(FieldFault::Range)),
-    ("", Err(FieldFault::Empty)),
-    ("08:00", Err(FieldFault::Shape(2))),
-    ("1000:00", Err(FieldFault::Shape(4))),
-    (":00", Err(FieldFault::Shape(1))),
-    ("12:5", Err(FieldFault::Shape(5))),
-    ("12:500", Err(FieldFault::Shape(6))),
-    ("12", Err(FieldFault::Shape(3))),
-];
-
-#[test]
-fn minutes_are_read(rt: HostRuntime) {
-    for (text, want) in MINUTES {
-        assert_read(&rt, text, minutes(text), want);
+/// What is said of it.
+fn told(rt: &impl Abort, alloc: Global, read: Read) -> String {
+    match read {
+        Ok(value) => format!(in alloc; "{value}"),
+        Err(fault) => format!(in alloc; "{fault}"),
     }
+    .expect(rt, "memory")
 }
 
-static CLOCKS: [(&str, Read); 8] = [
-    ("00:00", Ok(0)),
-    ("23:59", Ok(1439)),
-    ("08:60", Err(FieldFault::Range)),
-    ("24:00", Err(FieldFault::Range)),
-    ("", Err(FieldFault::Empty)),
-    ("8:00", Err(FieldFault::Shape(2))),
-    ("08:0", Err(FieldFault::Shape(5))),
-    ("08:000", Err(FieldFault::Shape(6))),
-];
+/// Kinds and texts, and what is said of them. The days are counted from -9999-01-01, so that 2024-02-29 is day 19,782 of
+/// 1970. June 2026 is an hour ahead of UTC: minute 0 is 2025-05-31T23:00Z, and the end 2026-07-07T23:00Z.
+const FIELDS: &str = r"number 0 => 0
+number 4294967295 => 4294967295
+number 4294967296 => out of range
+number  => an empty field
+number 01 => no field of this form from byte 2 on
+number +1 => no field of this form from byte 1 on
+number -1 => no field of this form from byte 1 on
+number 12x => no field of this form from byte 3 on
+minutes 0:00 => 0
+minutes 75:30 => 4530
+minutes 999:59 => 59999
+minutes 8:60 => out of range
+minutes  => an empty field
+minutes 08:00 => no field of this form from byte 2 on
+minutes 1000:00 => no field of this form from byte 4 on
+minutes :00 => no field of this form from byte 1 on
+minutes 12:5 => no field of this form from byte 5 on
+minutes 12:500 => no field of this form from byte 6 on
+minutes 12 => no field of this form from byte 3 on
+clock 00:00 => 0
+clock 23:59 => 1439
+clock 08:60 => out of range
+clock 24:00 => out of range
+clock  => an empty field
+clock 8:00 => no field of this form from byte 2 on
+clock 08:0 => no field of this form from byte 5 on
+clock 08:000 => no field of this form from byte 6 on
+day 2024-02-29 => 4391369
+day 2023-02-29 => no day of the calendar
+day 2023-13-01 => no day of the calendar
+day 0000-00-10 => no day of the calendar
+day 2023-1-01 => no field of this form from byte 7 on
+day  => an empty field
+moment 2025-05-31T23:00Z => 0
+moment 2025-05-31T22:59Z => outside the horizon
+moment 2026-07-07T23:00Z => 578880
+moment 2026-07-07T23:01Z => outside the horizon
+moment 2026-06-31T23:00Z => no day of the calendar
+moment 2026-06-31T23:60Z => out of range
+moment 2026-06-31T23:60 => no field of this form from byte 17 on
+moment 2026-06-01 23:00Z => no field of this form from byte 11 on
+moment  => an empty field
+name A-b_9 => 5
+name ABCDEFGHIJKLMNOP => 16
+name ABCDEFGHIJKLMNOPQ => no field of this form from byte 17 on
+name a b => no field of this form from byte 2 on
+name  => an empty field
+station OSL => 3
+station Osl => no field of this form from byte 2 on
+station OS => no field of this form from byte 3 on
+station OSLO => no field of this form from byte 4 on
+station  => an empty field";
 
-#[test]
-fn clocks_are_read(rt: HostRuntime) {
-    for (text, want) in CLOCKS {
-        assert_read(&rt, text, clock(text), want);
-    }
+/// Says what is read of a kind and a text.
+fn assert_read(rt: &impl Abort, alloc: Global, row: &str) {
+    let (field, due) = sides(rt, row);
+    let (kind, text) = field.split_once(' ').expect(rt, "a kind");
+    let found = told(rt, alloc, read_of(rt, kind, text));
+    assert!(rt; found.as_str() == due, "{row}");
 }
 
-static WORDS: [(&str, bool, Read); 10] = [
-    ("A-b_9", true, Ok(5)),
-    ("ABCDEFGHIJKLMNOP", true, Ok(16)),
-    ("ABCDEFGHIJKLMNOPQ", true, Err(FieldFault::Shape(17))),
-    ("a b", true, Err(FieldFault::Shape(2))),
-    ("", true, Err(FieldFault::Empty)),
-    ("OSL", false, Ok(3)),
-    ("Osl", false, Err(FieldFault::Shape(2))),
-    ("OS", false, Err(FieldFault::Shape(3))),
-    ("OSLO", false, Err(FieldFault::Shape(4))),
-    ("", false, Err(FieldFault::Empty)),
-];
-
 #[test]
-fn words_are_read(rt: HostRuntime) {
-    for (text, is_name, want) in WORDS {
-        assert_read(&rt, text, word(text, is_name), want);
-    }
-}
-
-/// days after -9999-01-01: 2024-02-29 is day 19,782 of 1970
-static DAYS: [(&str, Read); 6] = [
-    ("2024-02-29", Ok(4_391_369)),
-    ("2023-02-29", Err(FieldFault::NoSuchDay)),
-    ("2023-13-01", Err(FieldFault::NoSuchDay)),
-    ("0000-00-10", Err(FieldFault::NoSuchDay)),
-    ("2023-1-01", Err(FieldFault::Shape(7))),
-    ("", Err(FieldFault::Empty)),
-];
-
-#[test]
-fn days_are_read(rt: HostRuntime) {
-    for (text, want) in DAYS {
-        assert_read(&rt, text, day(text), want);
-    }
-}
-
-/// June 2026, an hour ahead of UTC: minute 0 is 2025-05-31T23:00Z, and the end 2026-07-07T23:00Z
-static MOMENTS: [(&str, Read); 9] = [
-    ("2025-05-31T23:00Z", Ok(0)),
-    ("2025-05-31T22:59Z", Err(FieldFault::OutsideHorizon)),
-    ("2026-07-07T23:00Z", Ok(578_880)),
-    ("2026-07-07T23:01Z", Err(FieldFault::OutsideHorizon)),
-    ("2026-06-31T23:00Z", Err(FieldFault::NoSuchDay)),
-    ("2026-06-31T23:60Z", Err(FieldFault::Range)),
-    ("2026-06-31T23:60", Err(FieldFault::Shape(17))),
-    ("2026-06-01 23:00Z", Err(FieldFault::Shape(11))),
-    ("", Err(FieldFault::Empty)),
-];
-
-#[test]
-fn moments_are_read(rt: HostRuntime) {
-    let horizon = Horizon::new(2026, 6, 60).expect(&rt, "June 2026");
-    for (text, want) in MOMENTS {
-        assert_read(&rt, text, moment(text, &horizon), want);
+fn fields_are_read(rt: HostRuntime) {
+    for row in FIELDS.lines() {
+        assert_read(&rt, rt.alloc(), row);
     }
 }
 
@@ -224,9 +196,8 @@ fn spellings(rt: HostRuntime) {
     put_bytes(&mut out, b" ".as_slice()).expect(&rt, "memory");
     let horizon = Horizon::new(2026, 6, 60).expect(&rt, "June 2026");
     put_moment(&mut out, 525_600, &horizon).expect(&rt, "memory");
-    assert_eq!(rt;
-        out.as_slice(),
-        b"4294967295 1000:05 08:05 0476-09-04 2026-05-31T23:00Z".as_slice()
+    assert!(rt;
+        out.as_slice() == b"4294967295 1000:05 08:05 0476-09-04 2026-05-31T23:00Z".as_slice()
     );
 }
 
