@@ -9,26 +9,14 @@ use std::test::Fail;
 fn keeps_what_was_written(rt: HostRuntime) -> Result<(), Fail> {
     let alloc = rt.alloc();
     let mut shelf = FolderShelf::new(&rt, String::from_str(alloc, ".")?);
-    assert_eq!(rt; shelf.read(alloc, "a", 9).err(), Some(ShelfFault::Missing));
+    assert!(rt; shelf.read(alloc, "a", 9).err() == Some(ShelfFault::Missing));
     shelf.write(alloc, "a", b"before")?;
     shelf.write(alloc, "a", b"0123456789")?;
-    assert_eq!(rt;
-        shelf.read(alloc, "a.new", 9).err(),
-        Some(ShelfFault::Missing)
-    );
-    assert_eq!(rt;
-        shelf.read(alloc, "a", 10)?.as_slice(),
-        b"0123456789".as_slice()
-    );
-    assert_eq!(rt; shelf.read(alloc, "a", 9).err(), Some(ShelfFault::TooLong));
-    assert_eq!(rt;
-        shelf.read(alloc, "..", 9).err(),
-        Some(ShelfFault::ReadFailed)
-    );
-    assert_eq!(rt;
-        shelf.write(alloc, "..", b"1").err(),
-        Some(ShelfFault::WriteFailed)
-    );
+    assert!(rt; shelf.read(alloc, "a.new", 9).err() == Some(ShelfFault::Missing));
+    assert!(rt; shelf.read(alloc, "a", 10)?.as_slice() == b"0123456789".as_slice());
+    assert!(rt; shelf.read(alloc, "a", 9).err() == Some(ShelfFault::TooLong));
+    assert!(rt; shelf.read(alloc, "..", 9).err() == Some(ShelfFault::ReadFailed));
+    assert!(rt; shelf.write(alloc, "..", b"1").err() == Some(ShelfFault::WriteFailed));
     Ok(())
 }
 
@@ -40,19 +28,10 @@ fn leaves_what_lies_beside(rt: HostRuntime) -> Result<(), Fail> {
     symlink(&rt, "nowhere", "a.new1")?;
     shelf.write(alloc, "a", b"1")?;
     shelf.write(alloc, "a", b"2")?;
-    assert_eq!(rt; shelf.read(alloc, "a", 9)?.as_slice(), b"2".as_slice());
-    assert_eq!(rt;
-        shelf.read(alloc, "a.new", 9)?.as_slice(),
-        b"mine".as_slice()
-    );
-    assert_eq!(rt;
-        shelf.read(alloc, "nowhere", 9).err(),
-        Some(ShelfFault::Missing)
-    );
-    assert_eq!(rt;
-        shelf.read(alloc, "a.new2", 9).err(),
-        Some(ShelfFault::Missing)
-    );
+    assert!(rt; shelf.read(alloc, "a", 9)?.as_slice() == b"2".as_slice());
+    assert!(rt; shelf.read(alloc, "a.new", 9)?.as_slice() == b"mine".as_slice());
+    assert!(rt; shelf.read(alloc, "nowhere", 9).err() == Some(ShelfFault::Missing));
+    assert!(rt; shelf.read(alloc, "a.new2", 9).err() == Some(ShelfFault::Missing));
     Ok(())
 }
 
@@ -62,10 +41,10 @@ fn writes_in_the_place_of_a_link(rt: HostRuntime) -> Result<(), Fail> {
     let mut shelf = FolderShelf::new(&rt, String::new(alloc));
     shelf.write(alloc, "b", b"kept")?;
     symlink(&rt, "b", "a")?;
-    assert_eq!(rt; shelf.read(alloc, "a", 9)?.as_slice(), b"kept".as_slice());
+    assert!(rt; shelf.read(alloc, "a", 9)?.as_slice() == b"kept".as_slice());
     shelf.write(alloc, "a", b"1")?;
-    assert_eq!(rt; shelf.read(alloc, "a", 9)?.as_slice(), b"1".as_slice());
-    assert_eq!(rt; shelf.read(alloc, "b", 9)?.as_slice(), b"kept".as_slice());
+    assert!(rt; shelf.read(alloc, "a", 9)?.as_slice() == b"1".as_slice());
+    assert!(rt; shelf.read(alloc, "b", 9)?.as_slice() == b"kept".as_slice());
     Ok(())
 }
 
@@ -74,11 +53,8 @@ fn reads_no_device(rt: HostRuntime) -> Result<(), Fail> {
     let alloc = rt.alloc();
     let mut shelf = FolderShelf::new(&rt, String::new(alloc));
     symlink(&rt, "/dev/zero", "a")?;
-    assert_eq!(rt;
-        shelf.read(alloc, "a", 9).err(),
-        Some(ShelfFault::ReadFailed)
-    );
+    assert!(rt; shelf.read(alloc, "a", 9).err() == Some(ShelfFault::ReadFailed));
     shelf.write(alloc, "a", b"1")?;
-    assert_eq!(rt; shelf.read(alloc, "a", 9)?.as_slice(), b"1".as_slice());
+    assert!(rt; shelf.read(alloc, "a", 9)?.as_slice() == b"1".as_slice());
     Ok(())
 }

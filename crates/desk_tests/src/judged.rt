@@ -40,7 +40,7 @@ fn assert_judged(
 {
     let trades = read_trades(alloc, text, problem).expect(rt, "trades");
     for trade in trades.as_slice() {
-        assert_eq!(rt; judge_trade(alloc, problem, roster, trade), answer);
+        assert!(rt; judge_trade(alloc, problem, roster, trade) == answer);
     }
 }
 
@@ -48,8 +48,8 @@ fn assert_judged(
 fn assert_all_judged(rt: &impl Abort, alloc: Global, problem: &Problem, roster: &Roster)
     requires complete { IsComplete problem.now roster.now }
 {
-    for (text, answer) in JUDGED {
-        assert_judged(rt, alloc, problem, roster, text, answer);
+    for (text, answer) in &JUDGED {
+        assert_judged(rt, alloc, problem, roster, text, *answer);
     }
 }
 
@@ -73,8 +73,8 @@ fn assert_taken(
     let roster = roster_of(rt, alloc, problem, TIE_ROSTER);
     let trades = read_trades(alloc, text, problem).expect(rt, "trades");
     let desk = run_trades(alloc, problem, &roster, trades.as_slice()).expect(rt, "memory");
-    assert_eq!(rt; desk.verdicts.as_slice(), verdicts);
-    assert_eq!(rt; desk.roster, roster_of(rt, alloc, problem, left));
+    assert!(rt; desk.verdicts.as_slice() == verdicts);
+    assert!(rt; desk.roster == roster_of(rt, alloc, problem, left));
 }
 
 #[test]

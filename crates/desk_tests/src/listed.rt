@@ -43,13 +43,13 @@ fn assert_fault(
     code: TradeCode,
 ) {
     let fault = TradeFault { line, code };
-    assert_eq!(rt; read_trades(alloc, text, problem).err(), Some(fault));
+    assert!(rt; read_trades(alloc, text, problem).err() == Some(fault));
 }
 
 /// Says that each row of the table has its fault.
 fn assert_faults(rt: &impl Abort, alloc: Global, problem: &Problem) {
-    for (text, line, code) in FAULTS {
-        assert_fault(rt, alloc, problem, text, line, code);
+    for (text, line, code) in &FAULTS {
+        assert_fault(rt, alloc, problem, text, *line, *code);
     }
 }
 
@@ -62,7 +62,7 @@ fn says_the_first_fault(rt: HostRuntime) {
 /// Says which trades a text has.
 fn assert_trades(rt: &impl Abort, alloc: Global, problem: &Problem, text: &[u8], trades: &[Trade]) {
     let read = read_trades(alloc, text, problem).expect(rt, "trades");
-    assert_eq!(rt; read.as_slice(), trades);
+    assert!(rt; read.as_slice() == trades);
 }
 
 #[test]
@@ -87,7 +87,7 @@ fn lines(rt: &impl Abort, alloc: Global, count: u32) -> String {
 fn assert_limit(rt: &impl Abort, alloc: Global, problem: &Problem) {
     let mut text = lines(rt, alloc, 10_000);
     let read = read_trades(alloc, text.as_bytes(), problem).expect(rt, "trades");
-    assert_eq!(rt; read.len(), 10_000);
+    assert!(rt; read.len() == 10_000);
     text.push_str("m").expect(rt, "memory");
     assert_fault(
         rt,

@@ -25,15 +25,12 @@ fn read(alloc: Global, shelf: &mut MemoryShelf, limit: u64) -> Result<Vec<u8>, S
 fn reads_and_writes(rt: HostRuntime) -> Result<(), Fail> {
     let alloc = rt.alloc();
     let mut shelf = shelf_of(&rt, alloc, &[])?;
-    assert_eq!(rt;
-        read(alloc, &mut shelf, 10)?.as_slice(),
-        b"0123456789".as_slice()
-    );
-    assert_eq!(rt; read(alloc, &mut shelf, 9).err(), Some(ShelfFault::TooLong));
-    assert_eq!(rt; shelf.read(alloc, "b", 9).err(), Some(ShelfFault::Missing));
+    assert!(rt; read(alloc, &mut shelf, 10)?.as_slice() == b"0123456789".as_slice());
+    assert!(rt; read(alloc, &mut shelf, 9).err() == Some(ShelfFault::TooLong));
+    assert!(rt; shelf.read(alloc, "b", 9).err() == Some(ShelfFault::Missing));
     assert!(rt; shelf.file("b").is_none());
     shelf.write(alloc, "b", b"1")?;
-    assert_eq!(rt; shelf.file("b"), Some(b"1".as_slice()));
+    assert!(rt; shelf.file("b") == Some(b"1".as_slice()));
     Ok(())
 }
 
@@ -43,14 +40,8 @@ fn the_third_call_fails(rt: HostRuntime) -> Result<(), Fail> {
     let mut shelf = shelf_of(&rt, alloc, &[3, 4])?;
     shelf.write(alloc, "b", b"1")?;
     read(alloc, &mut shelf, 10)?;
-    assert_eq!(rt;
-        read(alloc, &mut shelf, 10).err(),
-        Some(ShelfFault::ReadFailed)
-    );
-    assert_eq!(rt;
-        shelf.write(alloc, "b", b"2").err(),
-        Some(ShelfFault::WriteFailed)
-    );
+    assert!(rt; read(alloc, &mut shelf, 10).err() == Some(ShelfFault::ReadFailed));
+    assert!(rt; shelf.write(alloc, "b", b"2").err() == Some(ShelfFault::WriteFailed));
     shelf.write(alloc, "b", b"3")?;
     Ok(())
 }
@@ -62,9 +53,9 @@ fn the_second_put_fails(rt: HostRuntime) -> Result<(), Fail> {
     assert!(rt; failing.push(2).is_ok());
     let mut sink = MemorySink::new(alloc, failing);
     sink.put(b"yes\n")?;
-    assert_eq!(rt; sink.put(b"no\n"), Err(SinkFault::PutFailed));
+    assert!(rt; sink.put(b"no\n") == Err(SinkFault::PutFailed));
     sink.put(b"vector 10\n")?;
-    assert_eq!(rt; sink.bytes(), b"yes\nvector 10\n".as_slice());
+    assert!(rt; sink.bytes() == b"yes\nvector 10\n".as_slice());
     Ok(())
 }
 
@@ -74,6 +65,6 @@ fn writes_whole_pieces(rt: HostRuntime) -> Result<(), Fail> {
     let mut sink = OutSink::new(&mut out);
     sink.put(b"yes\n")?;
     sink.put(b"vector 10\n")?;
-    assert_eq!(rt; out.as_slice(), b"yes\nvector 10\n".as_slice());
+    assert!(rt; out.as_slice() == b"yes\nvector 10\n".as_slice());
     Ok(())
 }

@@ -29,9 +29,9 @@ fn assert_trades(
 ) {
     let mut shelf = desk(rt, alloc, &TIE, TIE_ROSTER, trades);
     let traded = trade(alloc, &mut shelf).ok().expect(rt, "trades");
-    assert_eq!(rt; traded.verdicts.as_slice(), verdicts);
-    assert_eq!(rt; traded.scores.as_slice(), scores);
-    assert_eq!(rt; shelf.file("roster.csv"), Some(roster.as_bytes()));
+    assert!(rt; traded.verdicts.as_slice() == verdicts);
+    assert!(rt; traded.scores.as_slice() == scores);
+    assert!(rt; shelf.file("roster.csv") == Some(roster.as_bytes()));
 }
 
 #[test]
@@ -65,8 +65,8 @@ fn no_of(rt: &impl Abort, end: Result<Traded, TradeStop>) -> Untraded {
 fn assert_no(rt: &impl Abort, alloc: Global, roster: &str, trades: &str, why: Untraded) {
     let mut shelf = desk(rt, alloc, &TIE, roster, trades);
     let end = trade(alloc, &mut shelf);
-    assert_eq!(rt; no_of(rt, end), why);
-    assert_eq!(rt; shelf.file("roster.csv"), Some(roster.as_bytes()));
+    assert!(rt; no_of(rt, end) == why);
+    assert!(rt; shelf.file("roster.csv") == Some(roster.as_bytes()));
 }
 
 #[test]
@@ -98,7 +98,7 @@ fn a_missing_file_of_trades_is_said(rt: HostRuntime) {
     let mut shelf = shelf_of(&rt, alloc, &TIE);
     place(&rt, alloc, &mut shelf, "roster.csv", b"x");
     match trade(alloc, &mut shelf) {
-        Err(TradeStop::Unread(why)) => assert_eq!(&rt; why, Unread::Missing(File::Trades)),
+        Err(TradeStop::Unread(why)) => assert!(&rt; why == Unread::Missing(File::Trades)),
         _ => panic!(&rt; "a missing file"),
     }
 }
