@@ -88,11 +88,11 @@ fn the_one_pairing_is_awarded(rt: HostRuntime) -> Result<(), Memory> {
     let problem = smallest(alloc)?;
     match &awarded(alloc, &problem, 1)? {
         MonthAward::Award(month) => {
-            assert_eq!(rt; parts(&month.certificate), Some((1, 0)));
-            assert_eq!(rt; month.roster.len(), 1);
-            assert_eq!(rt; month.roster.as_slice()[0].pairings(), [0].as_slice());
-            assert_eq!(rt; month.reasons.len(), 0);
-            assert_eq!(rt; month.entries, 0);
+            assert!(rt; parts(&month.certificate) == Some((1, 0)));
+            assert!(rt; month.roster.len() == 1);
+            assert!(rt; month.roster.as_slice()[0].pairings() == [0].as_slice());
+            assert!(rt; month.reasons.len() == 0);
+            assert!(rt; month.entries == 0);
         }
         _ => panic!(rt; "the member can fly the pairing"),
     }
@@ -107,7 +107,7 @@ fn a_crew_of_three_is_not_to_be_had(rt: HostRuntime) -> Result<(), Memory> {
         MonthAward::NoRoster(month) => {
             let proof = one(alloc, Item::Count(0))?;
             assert!(rt; month.certificate == Certificate::NoRoster(proof));
-            assert_eq!(rt; month.entries, 0);
+            assert!(rt; month.entries == 0);
         }
         _ => panic!(rt; "two members are no crew of three"),
     }
@@ -120,10 +120,10 @@ fn the_junior_is_the_reason_where_the_senior_does_not_care(rt: HostRuntime) -> R
     let problem = generous(alloc)?;
     match &awarded(alloc, &problem, 20_000)? {
         MonthAward::Award(month) => {
-            assert_eq!(rt; parts(&month.certificate), Some((2, 1)));
-            assert_eq!(rt; month.roster.len(), 2);
-            assert_eq!(rt; month.roster.as_slice()[0].pairings(), [1].as_slice());
-            assert_eq!(rt; month.roster.as_slice()[1].pairings(), [0].as_slice());
+            assert!(rt; parts(&month.certificate) == Some((2, 1)));
+            assert!(rt; month.roster.len() == 2);
+            assert!(rt; month.roster.as_slice()[0].pairings() == [1].as_slice());
+            assert!(rt; month.roster.as_slice()[1].pairings() == [0].as_slice());
             assert!(rt; month.reasons == reason(alloc, 0, Cause::Place(2))?);
         }
         _ => panic!(rt; "each member can fly one"),
@@ -137,7 +137,7 @@ fn one_of_two_wishes_is_a_tie(rt: HostRuntime) -> Result<(), Memory> {
     let problem = tie(alloc)?;
     match &awarded(alloc, &problem, 20_000)? {
         MonthAward::Award(month) => {
-            assert_eq!(rt; parts(&month.certificate), Some((2, 1)));
+            assert!(rt; parts(&month.certificate) == Some((2, 1)));
             let first = reason(alloc, 0, Cause::Tie)?;
             let second = reason(alloc, 1, Cause::Tie)?;
             assert!(rt; month.reasons == first || month.reasons == second);
@@ -154,7 +154,7 @@ fn one_node_is_too_few_for_a_branch(rt: HostRuntime) -> Result<(), Memory> {
     assert!(rt; awarded(alloc, &problem, 1)? == MonthAward::Budget);
     match &awarded(alloc, &problem, 20_000)? {
         MonthAward::Award(month) => {
-            assert_eq!(rt; parts(&month.certificate), Some((1, 1)));
+            assert!(rt; parts(&month.certificate) == Some((1, 1)));
             assert!(rt; month.reasons == reason(alloc, 0, Cause::Place(0))?);
             assert!(rt; month.entries >= 1);
         }

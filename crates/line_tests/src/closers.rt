@@ -151,7 +151,7 @@ fn an_empty_line_is_a_roster(rt: HostRuntime) -> Result<(), Memory> {
     let problem = empty(alloc)?;
     match &verdict(alloc, &problem, List::new(alloc))? {
         Verdict::Whole(roster) => {
-            assert_eq!(rt; roster.len(), 1);
+            assert!(rt; roster.len() == 1);
             assert!(rt; roster.as_slice()[0].pairings().is_empty());
         }
         _ => panic!(rt; "the empty roster is whole"),
@@ -166,7 +166,7 @@ fn two_cannot_fly_the_one_pairing(rt: HostRuntime) -> Result<(), Memory> {
     match &verdict(alloc, &problem, two_floors(alloc)?)? {
         Verdict::Closed(Item::Weights(weights, lenses)) => {
             assert!(rt; weights.as_slice().iter().all(|weight| *weight < 0));
-            assert_eq!(rt; lenses.len(), 2);
+            assert!(rt; lenses.len() == 2);
         }
         _ => panic!(rt; "the pairing weighs too much"),
     }

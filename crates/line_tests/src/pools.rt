@@ -68,9 +68,9 @@ fn a_line_is_kept_once(rt: HostRuntime) -> Result<(), Memory> {
     assert!(rt; pool.get(0, 0) == Some(&kept));
     assert!(rt; pool.get(0, 1).is_none());
     let open = Node::new(alloc);
-    assert_eq!(rt; heaviest(alloc, &problem, &pool, &open)?, Some(0));
+    assert!(rt; heaviest(alloc, &problem, &pool, &open)? == Some(0));
     let (node, is_refused) = grounded(alloc, &problem)?;
     assert!(rt; is_refused);
-    assert_eq!(rt; heaviest(alloc, &problem, &pool, &node)?, None);
+    assert!(rt; heaviest(alloc, &problem, &pool, &node)?.is_none());
     Ok(())
 }
