@@ -1,404 +1,251 @@
 //! What is asked of an award that stands, and what comes of it.
 
-use crate::awards::TIE;
-use crate::certificates::SHOWN;
-use crate::months::SENIORITY;
-use pbs_engine::Status;
-
-/// The files of a month in place of the smallest one's own, further ones in place of these, the words, the end, what is
-/// printed, and a file with what it holds then.
-pub(crate) type Asked = (
-    &'static [(&'static str, &'static str)],
-    &'static [(&'static str, &'static str)],
-    &'static [&'static str],
-    Status,
-    &'static str,
-    (&'static str, Option<&'static str>),
-);
-
-/// The certificate of two members in version 2.
-const SHOWN_TWO: &str =
-    "pbs-certificate 2\naward 2 1\nproof 1 1\nlens 60 0000000000000000 0 0\nnoline 1 1\nproof 1 1\nlens 60 0000000000000001 0 0\nweights 1 1:-1\nby 1 1\nshown 1 2\nproof 1 1\nlens 60 0000000000000001 0 0\nweights 1 1:-1\nby 1 1\nline\nline 1\nend\n";
-
-/// The same with a weight of 0 in its second proof, with a lens that stands in no line, and of a version that is not there.
-const NO_WEIGHT: &str =
-    "pbs-certificate 2\naward 2 1\nproof 1 1\nlens 60 0000000000000000 0 0\nnoline 1 1\nproof 1 1\nlens 60 0000000000000001 0 0\nweights 1\nby 1 1\nshown 1 2\nproof 1 1\nlens 60 0000000000000001 0 0\nweights 1 1:-1\nby 1 1\nline\nline 1\nend\n";
-
-const NO_LENS: &str =
-    "pbs-certificate 2\naward 2 1\nproof 1 1\nlens 60 0000000000000000 0 0\nnoline 1 1\nproof 1 1\nlens 60 0000000000000001 0 0\nweights 1 1:-1\nby 1 2\nshown 1 2\nproof 1 1\nlens 60 0000000000000001 0 0\nweights 1 1:-1\nby 1 1\nline\nline 1\nend\n";
-
-const NO_VERSION: &str = "pbs-certificate 4\naward 2 0\nproof 0\nproof 0\nend\n";
-
-/// The certificate with a lens that looks at whole lines, the same in version 2, and one without such a lens in version 3.
-const SHOWN_THREE: &str =
-    "pbs-certificate 3\naward 2 1\nproof 1 1\nwhole 60 0000000000000000 0 0\nnoline 1 1\nproof 1 1\nlens 60 0000000000000001 0 0\nweights 1 1:-1\nby 1 1\nshown 1 2\nproof 1 1\nlens 60 0000000000000001 0 0\nweights 1 1:-1\nby 1 1\nline\nline 1\nend\n";
-
-const WHOLE_IN_TWO: &str =
-    "pbs-certificate 2\naward 2 1\nproof 1 1\nwhole 60 0000000000000000 0 0\nnoline 1 1\nproof 1 1\nlens 60 0000000000000001 0 0\nweights 1 1:-1\nby 1 1\nshown 1 2\nproof 1 1\nlens 60 0000000000000001 0 0\nweights 1 1:-1\nby 1 1\nline\nline 1\nend\n";
-
-const PLAIN_IN_THREE: &str =
-    "pbs-certificate 3\naward 2 1\nproof 1 1\nlens 60 0000000000000000 0 0\nnoline 1 1\nproof 1 1\nlens 60 0000000000000001 0 0\nweights 1 1:-1\nby 1 1\nshown 1 2\nproof 1 1\nlens 60 0000000000000001 0 0\nweights 1 1:-1\nby 1 1\nline\nline 1\nend\n";
+use crate::play::play;
+use answer_texts::migrate_text;
+use desk_commands::{MigrateStop, Unmigrated};
 
 /// Certificates written anew, and checked in versions 2 and 3.
-pub(crate) const RESPELT: [Asked; 15] = [
-    (
-        &SENIORITY,
-        &[("certificate.txt", SHOWN_THREE)],
-        &["check"],
-        Status::Done,
-        "yes\nvector 10 0\n",
-        ("certificate.txt", Some(SHOWN_THREE)),
-    ),
-    (
-        &SENIORITY,
-        &[("certificate.txt", SHOWN_THREE)],
-        &["migrate"],
-        Status::Done,
-        "migrated 3\n",
-        ("certificate.txt", Some(SHOWN_THREE)),
-    ),
-    (
-        &SENIORITY,
-        &[("certificate.txt", WHOLE_IN_TWO)],
-        &["check"],
-        Status::No,
-        "no certificate 4 2\n",
-        ("certificate.txt", Some(WHOLE_IN_TWO)),
-    ),
-    (
-        &SENIORITY,
-        &[("certificate.txt", WHOLE_IN_TWO)],
-        &["migrate"],
-        Status::No,
-        "no certificate 4 2\n",
-        ("certificate.txt", Some(WHOLE_IN_TWO)),
-    ),
-    (
-        &SENIORITY,
-        &[("certificate.txt", PLAIN_IN_THREE)],
-        &["check"],
-        Status::No,
-        "no certificate 12 2\n",
-        ("certificate.txt", Some(PLAIN_IN_THREE)),
-    ),
-    (
-        &SENIORITY,
-        &[],
-        &["migrate"],
-        Status::Done,
-        "migrated 1\n",
-        ("certificate.txt", Some(SHOWN_TWO)),
-    ),
-    (
-        &SENIORITY,
-        &[("certificate.txt", SHOWN_TWO)],
-        &["migrate"],
-        Status::Done,
-        "migrated 2\n",
-        ("certificate.txt", Some(SHOWN_TWO)),
-    ),
-    (
-        &SENIORITY,
-        &[("certificate.txt", SHOWN_TWO)],
-        &["check"],
-        Status::Done,
-        "yes\nvector 10 0\n",
-        ("certificate.txt", Some(SHOWN_TWO)),
-    ),
-    (
-        &SENIORITY,
-        &[("certificate.txt", NO_WEIGHT)],
-        &["check"],
-        Status::No,
-        "no 4 2 1 9 0 0\n",
-        ("certificate.txt", Some(NO_WEIGHT)),
-    ),
-    (
-        &SENIORITY,
-        &[("certificate.txt", NO_LENS)],
-        &["check"],
-        Status::No,
-        "no certificate 9 3\n",
-        ("certificate.txt", Some(NO_LENS)),
-    ),
-    (
-        &SENIORITY,
-        &[("certificate.txt", NO_LENS)],
-        &["migrate"],
-        Status::No,
-        "no certificate 9 3\n",
-        ("certificate.txt", Some(NO_LENS)),
-    ),
-    (
-        &SENIORITY,
-        &[("certificate.txt", NO_VERSION)],
-        &["migrate"],
-        Status::No,
-        "no certificate 1 1\n",
-        ("certificate.txt", Some(NO_VERSION)),
-    ),
-    (
-        &SENIORITY,
-        &[("certificate.txt", NO_VERSION)],
-        &["check"],
-        Status::No,
-        "no certificate 1 1\n",
-        ("certificate.txt", Some(NO_VERSION)),
-    ),
-    (
-        &SENIORITY,
-        &[("rules.toml", ""), ("bids.txt", "member M3\n")],
-        &["migrate"],
-        Status::Done,
-        "migrated 1\n",
-        ("certificate.txt", Some(SHOWN_TWO)),
-    ),
-    (
-        &SENIORITY,
-        &[],
-        &["migrate", "certificate.txt"],
-        Status::Usage,
-        crate::months::USAGE,
-        ("certificate.txt", Some(SHOWN)),
-    ),
-];
+const MIGRATED: &str = r"smallest seniority
+certificate.txt <- @shown-3
+check => Done yes\nvector 10 0
+certificate.txt == @shown-3
 
-/// A roster of that month of two pairings, and the one after a swap.
-const AWARDED_ROSTER: &str = "member,pairings,credit,score\nM1,P2,5:00,10\nM2,P1,5:00,10\n";
+smallest seniority
+certificate.txt <- @shown-3
+migrate => Done migrated 3
+certificate.txt == @shown-3
 
-const SWAPPED: &str = "member,pairings,credit,score\nM1,P1,5:00,10\nM2,P2,5:00,0\n";
+smallest seniority
+certificate.txt <- @whole-in-2
+check => No no certificate 4 2
+certificate.txt == @whole-in-2
 
-/// Rosters in its place that are not complete, or no text of one.
-const EMPTY_LINE: &str = "member,pairings,credit,score\nM1,,0:00,0\nM2,P1,5:00,10\n";
+smallest seniority
+certificate.txt <- @whole-in-2
+migrate => No no certificate 4 2
+certificate.txt == @whole-in-2
 
-const SHARED: &str = "member,pairings,credit,score\nM1,P1,5:00,10\nM2,P1,5:00,10\n";
+smallest seniority
+certificate.txt <- @plain-in-3
+check => No no certificate 12 2
+certificate.txt == @plain-in-3
 
-const TURNED: &str = "member,pairings,credit,score\nM2,P1,5:00,10\nM1,P2,5:00,10\n";
+smallest seniority
+migrate => Done migrated 1
+certificate.txt == @shown-2
 
-/// Trades that are taken, each on the roster that those before it left.
-pub(crate) const TRADED: [Asked; 3] = [
-    (
-        &TIE,
-        &[
-            ("roster.csv", AWARDED_ROSTER),
-            ("trades.txt", "swap M1 P2 M2 P1\nswap M1 P2 M2 P1\n"),
-        ],
-        &["trade"],
-        Status::Done,
-        "trade 1 ok\ntrade 2 2 1 2\nvector 10 0\n",
-        ("roster.csv", Some(SWAPPED)),
-    ),
-    (
-        &TIE,
-        &[
-            ("roster.csv", AWARDED_ROSTER),
-            ("trades.txt", "move M1 P2 M2\nswap M1 P2 M1 P2\n"),
-        ],
-        &["trade"],
-        Status::Done,
-        "trade 1 4 1 8 0\ntrade 2 1\nvector 10 10\n",
-        ("roster.csv", Some(AWARDED_ROSTER)),
-    ),
-    (
-        &TIE,
-        &[("roster.csv", AWARDED_ROSTER), ("trades.txt", "")],
-        &["trade"],
-        Status::Done,
-        "vector 10 10\n",
-        ("roster.csv", Some(AWARDED_ROSTER)),
-    ),
-];
+smallest seniority
+certificate.txt <- @shown-2
+migrate => Done migrated 2
+certificate.txt == @shown-2
 
-/// Trades that are not taken, and nothing is written.
-pub(crate) const UNTRADED: [Asked; 10] = [
-    (
-        &TIE,
-        &[
-            ("roster.csv", AWARDED_ROSTER),
-            ("trades.txt", "swap M1 P2 M2 P1"),
-        ],
-        &["trade"],
-        Status::No,
-        "no trades 1 1\n",
-        ("roster.csv", Some(AWARDED_ROSTER)),
-    ),
-    (
-        &TIE,
-        &[
-            ("roster.csv", AWARDED_ROSTER),
-            ("trades.txt", "swap M1 P2 M2 P1\nmove M1 P1\n"),
-        ],
-        &["trade"],
-        Status::No,
-        "no trades 2 1\n",
-        ("roster.csv", Some(AWARDED_ROSTER)),
-    ),
-    (
-        &TIE,
-        &[
-            ("roster.csv", AWARDED_ROSTER),
-            ("trades.txt", "move M9 P2 M2\n"),
-        ],
-        &["trade"],
-        Status::No,
-        "no trades 1 2\n",
-        ("roster.csv", Some(AWARDED_ROSTER)),
-    ),
-    (
-        &TIE,
-        &[
-            ("roster.csv", AWARDED_ROSTER),
-            ("trades.txt", "move M1 P9 M2\n"),
-        ],
-        &["trade"],
-        Status::No,
-        "no trades 1 3\n",
-        ("roster.csv", Some(AWARDED_ROSTER)),
-    ),
-    (
-        &TIE,
-        &[("roster.csv", EMPTY_LINE), ("trades.txt", "")],
-        &["trade"],
-        Status::No,
-        "no 1 1 8 0\n",
-        ("roster.csv", Some(EMPTY_LINE)),
-    ),
-    (
-        &TIE,
-        &[("roster.csv", SHARED), ("trades.txt", "")],
-        &["trade"],
-        Status::No,
-        "no 2 1 2\n",
-        ("roster.csv", Some(SHARED)),
-    ),
-    (
-        &TIE,
-        &[("roster.csv", TURNED), ("trades.txt", "")],
-        &["trade"],
-        Status::No,
-        "no roster 2 3\n",
-        ("roster.csv", Some(TURNED)),
-    ),
-    (
-        &TIE,
-        &[
-            ("roster.csv", AWARDED_ROSTER),
-            ("trades.txt", "swap M1 P2 M2 P1\n"),
-            ("crew.csv", "member,low,high\n"),
-        ],
-        &["trade"],
-        Status::BadInput,
-        "bad crew.csv 1 11\n",
-        ("roster.csv", Some(AWARDED_ROSTER)),
-    ),
-    (
-        &TIE,
-        &[("roster.csv", AWARDED_ROSTER)],
-        &["trade"],
-        Status::Missing,
-        "missing trades.txt\n",
-        ("roster.csv", Some(AWARDED_ROSTER)),
-    ),
-    (
-        &TIE,
-        &[
-            ("roster.csv", AWARDED_ROSTER),
-            ("trades.txt", "swap M1 P2 M2 P1\n"),
-        ],
-        &["trade", "trades.txt"],
-        Status::Usage,
-        crate::months::USAGE,
-        ("roster.csv", Some(AWARDED_ROSTER)),
-    ),
-];
+smallest seniority
+certificate.txt <- @shown-2
+check => Done yes\nvector 10 0
+certificate.txt == @shown-2
 
-/// A pairing of three duties.
-const THREE_DAYS: [(&str, &str); 2] = [
-    (
-        "duties.csv",
-        "pairing,no,report,parked,release,layover\nP1,1,2026-06-10T08:00Z,2026-06-10T14:00Z,2026-06-10T14:30Z,LHR\nP1,2,2026-06-11T10:00Z,2026-06-11T16:00Z,2026-06-11T16:30Z,ORD\nP1,3,2026-06-12T10:00Z,2026-06-12T16:00Z,2026-06-12T16:30Z,\n",
-    ),
-    (
-        "legs.csv",
-        "pairing,no,from,to,out,in\nP1,1,DUB,LHR,2026-06-10T09:00Z,2026-06-10T13:00Z\nP1,2,LHR,ORD,2026-06-11T11:00Z,2026-06-11T15:00Z\nP1,3,ORD,DUB,2026-06-12T11:00Z,2026-06-12T15:00Z\n",
-    ),
-];
+smallest seniority
+certificate.txt <- @no-weight
+check => No no 4 2 1 9 0 0
+certificate.txt == @no-weight
 
-/// A month without pairings and bids.
-const IDLE_MONTH: [(&str, &str); 5] = [
-    ("pairings.csv", "pairing,need,credit\n"),
-    ("duties.csv", "pairing,no,report,parked,release,layover\n"),
-    ("legs.csv", "pairing,no,from,to,out,in\n"),
-    ("bids.txt", ""),
-    ("roster.csv", "member,pairings,credit,score\nM1,,0:00,0\n"),
-];
+smallest seniority
+certificate.txt <- @no-lens
+check => No no certificate 9 3
+certificate.txt == @no-lens
+
+smallest seniority
+certificate.txt <- @no-lens
+migrate => No no certificate 9 3
+certificate.txt == @no-lens
+
+smallest seniority
+certificate.txt <- pbs-certificate 4\naward 2 0\nproof 0\nproof 0\nend\n
+migrate => No no certificate 1 1
+certificate.txt == pbs-certificate 4\naward 2 0\nproof 0\nproof 0\nend\n
+
+smallest seniority
+certificate.txt <- pbs-certificate 4\naward 2 0\nproof 0\nproof 0\nend\n
+check => No no certificate 1 1
+certificate.txt == pbs-certificate 4\naward 2 0\nproof 0\nproof 0\nend\n
+
+smallest seniority
+rules.toml <- 
+bids.txt <- member M3\n
+migrate => Done migrated 1
+certificate.txt == @shown-2
+
+smallest seniority
+migrate certificate.txt => Usage @usage
+certificate.txt == @shown";
+
+/// Trades that are taken, each on the roster that those before it left; and trades that are not, and nothing is written.
+const TRADED: &str = r"smallest tie
+roster.csv <- @awarded
+trades.txt <- swap M1 P2 M2 P1\nswap M1 P2 M2 P1\n
+trade => Done trade 1 ok\ntrade 2 2 1 2\nvector 10 0
+roster.csv == member,pairings,credit,score\nM1,P1,5:00,10\nM2,P2,5:00,0\n
+
+smallest tie
+roster.csv <- @awarded
+trades.txt <- move M1 P2 M2\nswap M1 P2 M1 P2\n
+trade => Done trade 1 4 1 8 0\ntrade 2 1\nvector 10 10
+roster.csv == @awarded
+
+smallest tie
+roster.csv <- @awarded
+trades.txt <- 
+trade => Done vector 10 10
+roster.csv == @awarded
+
+smallest tie
+roster.csv <- @awarded
+trades.txt <- swap M1 P2 M2 P1
+trade => No no trades 1 1
+roster.csv == @awarded
+
+smallest tie
+roster.csv <- @awarded
+trades.txt <- swap M1 P2 M2 P1\nmove M1 P1\n
+trade => No no trades 2 1
+roster.csv == @awarded
+
+smallest tie
+roster.csv <- @awarded
+trades.txt <- move M9 P2 M2\n
+trade => No no trades 1 2
+roster.csv == @awarded
+
+smallest tie
+roster.csv <- @awarded
+trades.txt <- move M1 P9 M2\n
+trade => No no trades 1 3
+roster.csv == @awarded
+
+smallest tie
+roster.csv <- member,pairings,credit,score\nM1,,0:00,0\nM2,P1,5:00,10\n
+trades.txt <- 
+trade => No no 1 1 8 0
+roster.csv == member,pairings,credit,score\nM1,,0:00,0\nM2,P1,5:00,10\n
+
+smallest tie
+roster.csv <- member,pairings,credit,score\nM1,P1,5:00,10\nM2,P1,5:00,10\n
+trades.txt <- 
+trade => No no 2 1 2
+roster.csv == member,pairings,credit,score\nM1,P1,5:00,10\nM2,P1,5:00,10\n
+
+smallest tie
+roster.csv <- member,pairings,credit,score\nM2,P1,5:00,10\nM1,P2,5:00,10\n
+trades.txt <- 
+trade => No no roster 2 3
+roster.csv == member,pairings,credit,score\nM2,P1,5:00,10\nM1,P2,5:00,10\n
+
+smallest tie
+roster.csv <- @awarded
+trades.txt <- swap M1 P2 M2 P1\n
+crew.csv <- member,low,high\n
+trade => BadInput bad crew.csv 1 11
+roster.csv == @awarded
+
+smallest tie
+roster.csv <- @awarded
+trade => Missing missing trades.txt
+roster.csv == @awarded
+
+smallest tie
+roster.csv <- @awarded
+trades.txt <- swap M1 P2 M2 P1\n
+trade trades.txt => Usage @usage
+roster.csv == @awarded";
 
 /// Calendars, and members without one.
-pub(crate) const DATED: [Asked; 7] = [
-    (
-        &[],
-        &[],
-        &["calendar", "M1"],
-        Status::Done,
-        "calendar M1 1\n",
-        (
-            "M1.ics",
-            Some(
-                "BEGIN:VCALENDAR\r\nVERSION:2.0\r\nPRODID:-//pbs//crew calendar//EN\r\nBEGIN:VEVENT\r\nUID:p.P1.M1.202606@pbs\r\nDTSTAMP:20260601T000000Z\r\nDTSTART:20260610T080000Z\r\nDTEND:20260610T143000Z\r\nSUMMARY:P1\r\nDESCRIPTION:1: DUB-LHR 09:00-13:00\r\nEND:VEVENT\r\nEND:VCALENDAR\r\n",
-            ),
-        ),
-    ),
-    (
-        &THREE_DAYS,
-        &[],
-        &["calendar", "M1"],
-        Status::Done,
-        "calendar M1 1\n",
-        (
-            "M1.ics",
-            Some(
-                "BEGIN:VCALENDAR\r\nVERSION:2.0\r\nPRODID:-//pbs//crew calendar//EN\r\nBEGIN:VEVENT\r\nUID:p.P1.M1.202606@pbs\r\nDTSTAMP:20260601T000000Z\r\nDTSTART:20260610T080000Z\r\nDTEND:20260612T163000Z\r\nSUMMARY:P1\r\nDESCRIPTION:1: DUB-LHR 09:00-13:00\\n2: LHR-ORD 11:00-15:00\\n3: ORD-DUB 11:0\r\n 0-15:00\r\nEND:VEVENT\r\nEND:VCALENDAR\r\n",
-            ),
-        ),
-    ),
-    (
-        &IDLE_MONTH,
-        &[],
-        &["calendar", "M1"],
-        Status::No,
-        "no events M1\n",
-        ("M1.ics", None),
-    ),
-    (
-        &[],
-        &[],
-        &["calendar", "M9"],
-        Status::No,
-        "no member M9\n",
-        ("M9.ics", None),
-    ),
-    (
-        &[],
-        &[("roster.csv", "")],
-        &["calendar", "M1"],
-        Status::No,
-        "no roster 1 1\n",
-        ("M1.ics", None),
-    ),
-    (
-        &[],
-        &[("crew.csv", "member,low,high\n")],
-        &["calendar", "M1"],
-        Status::BadInput,
-        "bad crew.csv 1 11\n",
-        ("M1.ics", None),
-    ),
-    (
-        &[],
-        &[],
-        &["calendar"],
-        Status::Usage,
-        crate::months::USAGE,
-        ("M1.ics", None),
-    ),
-];
+const DATED: &str = r"smallest
+calendar M1 => Done calendar M1 1
+M1.ics == BEGIN:VCALENDAR\r\nVERSION:2.0\r\nPRODID:-//pbs//crew calendar//EN\r\nBEGIN:VEVENT\r\nUID:p.P1.M1.202606@pbs\r\nDTSTAMP:20260601T000000Z\r\nDTSTART:20260610T080000Z\r\nDTEND:20260610T143000Z\r\nSUMMARY:P1\r\nDESCRIPTION:1: DUB-LHR 09:00-13:00\r\nEND:VEVENT\r\nEND:VCALENDAR\r\n
+
+smallest three-days
+calendar M1 => Done calendar M1 1
+M1.ics == BEGIN:VCALENDAR\r\nVERSION:2.0\r\nPRODID:-//pbs//crew calendar//EN\r\nBEGIN:VEVENT\r\nUID:p.P1.M1.202606@pbs\r\nDTSTAMP:20260601T000000Z\r\nDTSTART:20260610T080000Z\r\nDTEND:20260612T163000Z\r\nSUMMARY:P1\r\nDESCRIPTION:1: DUB-LHR 09:00-13:00\5Cn2: LHR-ORD 11:00-15:00\5Cn3: ORD-DUB 11:0\r\n 0-15:00\r\nEND:VEVENT\r\nEND:VCALENDAR\r\n
+
+smallest idle-month
+calendar M1 => No no events M1
+M1.ics gone
+
+smallest
+calendar M9 => No no member M9
+M9.ics gone
+
+smallest
+roster.csv <- 
+calendar M1 => No no roster 1 1
+M1.ics gone
+
+smallest
+crew.csv <- member,low,high\n
+calendar M1 => BadInput bad crew.csv 1 11
+M1.ics gone
+
+smallest
+calendar => Usage @usage
+M1.ics gone";
+
+/// Reads, writes and puts that fail.
+const DEVICES: &str = r"smallest tie shelf=1 sink=9
+roster.csv <- @awarded
+trades.txt <- swap M1 P2 M2 P1\n
+migrate => ReadFault read fault certificate.txt
+
+smallest tie shelf=2 sink=9
+roster.csv <- @awarded
+trades.txt <- swap M1 P2 M2 P1\n
+migrate => WriteFault write fault certificate.txt
+
+smallest tie shelf=10 sink=9
+roster.csv <- @awarded
+trades.txt <- swap M1 P2 M2 P1\n
+trade => ReadFault read fault trades.txt
+
+smallest tie shelf=11 sink=9
+roster.csv <- @awarded
+trades.txt <- swap M1 P2 M2 P1\n
+trade => WriteFault write fault roster.csv
+
+smallest tie shelf=9 sink=9
+roster.csv <- @awarded
+trades.txt <- swap M1 P2 M2 P1\n
+calendar M1 => ReadFault read fault roster.csv
+
+smallest tie shelf=10 sink=9
+roster.csv <- @awarded
+trades.txt <- swap M1 P2 M2 P1\n
+calendar M1 => WriteFault write fault M1.ics
+
+smallest tie shelf=99 sink=1
+roster.csv <- @awarded
+trades.txt <- swap M1 P2 M2 P1\n
+trade => WriteFault 
+
+smallest tie shelf=99 sink=1
+roster.csv <- @awarded
+trades.txt <- swap M1 P2 M2 P1\n
+calendar M1 => WriteFault ";
+
+#[test]
+fn certificates_are_written_anew(rt: HostRuntime) {
+    play(&rt, rt.alloc(), MIGRATED);
+}
+
+#[test]
+fn trades_are_taken_and_calendars_written(rt: HostRuntime) {
+    play(&rt, rt.alloc(), TRADED);
+    play(&rt, rt.alloc(), DATED);
+    play(&rt, rt.alloc(), DEVICES);
+}
+
+/// A text of version 2 that no reader would take.
+#[test]
+fn a_certificate_may_be_too_long(rt: HostRuntime) {
+    let end = Err(MigrateStop::No(Unmigrated::TooLong));
+    let text = migrate_text(rt.alloc(), &end).expect(&rt, "memory");
+    assert!(rt; text.as_slice() == b"no certificate 0 6\n".as_slice());
+}
