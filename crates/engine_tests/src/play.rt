@@ -1,6 +1,6 @@
 //! Cases as text: months, what stands in their files instead, words, and what comes of them.
 //!
-//! A case is a few lines, and an empty line ends it. Its first line names months, each of which is put over those before it; there
+//! A case is a few lines, and an empty line ends it. Its first line names months, each of which is put over those before it, or is `files=none`; there
 //! `without=FILE` leaves a file out, and `shelf=N` and `sink=N` let the call and the put of that number fail. Then, in order,
 //! `FILE <- TEXT` puts a file, `WORDS => STATUS TEXT` runs these words and says what is printed, and `FILE == TEXT`, `FILE there`
 //! and `FILE gone` say what the folder holds. What is printed ends with a line feed that is not written here; `...` in it
@@ -50,7 +50,7 @@ fn play_step(rt: &impl Abort, alloc: Global, shelf: &mut MemoryShelf, step: &str
 }
 
 /// Says what a file of the folder holds.
-fn assert_holds(rt: &impl Abort, shelf: &MemoryShelf, name: &str, bytes: &[u8]) {
+pub(crate) fn assert_holds(rt: &impl Abort, shelf: &MemoryShelf, name: &str, bytes: &[u8]) {
     let held = shelf.file(name).expect(rt, "the file is there");
     assert!(rt; held == bytes, "{name}");
 }
