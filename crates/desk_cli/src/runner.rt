@@ -7,6 +7,7 @@ use crate::words::DeskCommand;
 use duty_calendar::Memory;
 use file_places::{Prose, line_at};
 use folder_answers::{Told, explain};
+use month_lint::{Verdict, lint};
 use shelf::{Shelf, Sink, SinkFault};
 use std::alloc::Global;
 
@@ -70,6 +71,15 @@ pub fn run_explain<S: Shelf, O: Sink>(
     }
 }
 
+/// How a run of `lint` ends.
+fn status_of(verdict: Verdict) -> DeskStatus {
+    match verdict {
+        Verdict::Clean => DeskStatus::Done,
+        Verdict::Odd => DeskStatus::Warned,
+        Verdict::Faulty | Verdict::Unread => DeskStatus::Faulty,
+    }
+}
+
 /// Appends what a command says.
 fn answer<S: Shelf>(
     alloc: Global,
@@ -79,6 +89,7 @@ fn answer<S: Shelf>(
 ) -> Result<DeskStatus, Memory> {
     match command {
         DeskCommand::Explain(line) => explain_all(alloc, shelf, prose, line.as_bytes()),
+        DeskCommand::Lint => Ok(status_of(lint(alloc, shelf, prose)?)),
         DeskCommand::ExplainInput => Ok(DeskStatus::Done),
         DeskCommand::Help => {
             put_help(prose)?;

@@ -5,9 +5,9 @@
 pub enum DeskStatus {
     /// What was asked for was done, or there is nothing to say.
     Done,
-    /// A line is none that `pbs` prints.
+    /// There are warnings, or a line is none that `pbs` prints.
     Warned,
-    /// The words are no command.
+    /// There are faults, or the words are no command.
     Faulty,
     /// The text could not be put, or the page not be written.
     WriteFault,

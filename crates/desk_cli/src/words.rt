@@ -9,6 +9,8 @@ pub enum DeskCommand {
     Explain(String),
     /// Say what each line of standard input says.
     ExplainInput,
+    /// Say what is wrong with the files, and what looks wrong.
+    Lint,
     /// Say what each command is for.
     Help,
     /// Say that the words are no command.
@@ -46,6 +48,7 @@ fn command_of(alloc: Global, name: &str, words: &[String]) -> Result<DeskCommand
         return Ok(DeskCommand::Usage);
     }
     match name {
+        "lint" => Ok(DeskCommand::Lint),
         "help" | "--help" => Ok(DeskCommand::Help),
         _ => Ok(DeskCommand::Usage),
     }
