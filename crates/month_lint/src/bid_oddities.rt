@@ -4,13 +4,12 @@ ghost use Rattle.roster_model.specs.Scores.{bids_of};
 
 use crate::bid_pairs::note_beside;
 use crate::bids::{At, bid_at, bid_count, line_of};
-use crate::drawer::Drawer;
 use crate::findings::Findings;
 use crate::lone::empty_line;
 use crate::trip_oddities::may_fly;
 use bid_score::granted;
 use duty_calendar::{Member, Memory};
-use month_files::File;
+use month_files::{File, Texts};
 use roster_model::{Filter, Problem, Wish, holds};
 use std::alloc::Global;
 
@@ -109,13 +108,13 @@ fn said_of(sure: Sure) -> Option<&'static [u8]> {
 /// Notes what is sure of a bid.
 fn note_sure(
     found: &mut Findings,
-    drawer: &Drawer,
+    texts: &Texts,
     problem: &Problem,
     at: At,
     sure: Sure,
 ) -> Result<(), Memory> {
     match said_of(sure) {
-        Some(text) => found.say(File::Bids, line_of(drawer, problem, at), text),
+        Some(text) => found.say(File::Bids, line_of(texts, problem, at), text),
         None => Ok(()),
     }
 }
@@ -123,7 +122,7 @@ fn note_sure(
 /// Notes what looks wrong of the bids of a member.
 fn note_bids_of(
     found: &mut Findings,
-    drawer: &Drawer,
+    texts: &Texts,
     problem: &Problem,
     member: u32,
 ) -> Result<(), Memory>
@@ -132,16 +131,16 @@ fn note_bids_of(
     for bid in 0..bid_count(problem, member) {
         let at = At { member, bid };
         let sure = sure_of_bid(found.alloc(), problem, member, bid)?;
-        note_sure(found, drawer, problem, at, sure)?;
-        note_beside(found, drawer, problem, at)?;
+        note_sure(found, texts, problem, at, sure)?;
+        note_beside(found, texts, problem, at)?;
     }
     Ok(())
 }
 
 /// Notes what looks wrong of bids.
-pub fn note_bids(found: &mut Findings, drawer: &Drawer, problem: &Problem) -> Result<(), Memory> {
+pub fn note_bids(found: &mut Findings, texts: &Texts, problem: &Problem) -> Result<(), Memory> {
     for member in 0..problem.base.members.len() as u32 {
-        note_bids_of(found, drawer, problem, member)?;
+        note_bids_of(found, texts, problem, member)?;
     }
     Ok(())
 }

@@ -3,13 +3,12 @@ ghost use Rattle.std.specs.Prelude.{◌<◌, length};
 ghost use Rattle.roster_model.specs.Scores.{bids_of};
 
 use crate::bids::{At, bid_at, line_of};
-use crate::drawer::Drawer;
 use crate::findings::Findings;
 use crate::lone::line_alone;
 use bid_score::granted;
 use duty_calendar::Memory;
 use file_places::Prose;
-use month_files::File;
+use month_files::{File, Texts};
 use roster_model::{Problem, Wish};
 use std::alloc::Global;
 
@@ -92,7 +91,7 @@ fn put_line(list: &mut Prose, line: u64) -> Result<(), Memory> {
 /// Notes words of a bid with a list of lines behind them, where it has any.
 fn note_lines(
     found: &mut Findings,
-    drawer: &Drawer,
+    texts: &Texts,
     problem: &Problem,
     at: At,
     text: &'static [u8],
@@ -104,13 +103,13 @@ fn note_lines(
     let mut words = found.words();
     words.say(text)?;
     words.add(list)?;
-    found.add(File::Bids, line_of(drawer, problem, at), words)
+    found.add(File::Bids, line_of(texts, problem, at), words)
 }
 
 /// Notes what a bid has to do with those above it.
 pub fn note_beside(
     found: &mut Findings,
-    drawer: &Drawer,
+    texts: &Texts,
     problem: &Problem,
     at: At,
 ) -> Result<(), Memory>
@@ -122,19 +121,19 @@ pub fn note_beside(
     for bid in 0..at.bid {
         let above = At { bid, ..at };
         match pair_of(found.alloc(), problem, at.member, at.bid, bid)? {
-            Pair::Same => put_line(&mut same, line_of(drawer, problem, above))?,
-            Pair::Against => put_line(&mut against, line_of(drawer, problem, above))?,
+            Pair::Same => put_line(&mut same, line_of(texts, problem, above))?,
+            Pair::Against => put_line(&mut against, line_of(texts, problem, above))?,
             Pair::Apart => {}
         }
     }
     note_lines(
         found,
-        drawer,
+        texts,
         problem,
         at,
         b"the pilot has the same bid in line ",
         &same,
     )?;
     let text = b"no line grants both the bid and that of line ";
-    note_lines(found, drawer, problem, at, text, &against)
+    note_lines(found, texts, problem, at, text, &against)
 }

@@ -2,8 +2,8 @@
 ghost use Rattle.std.specs.Prelude.{◌≡◌, ◌<◌, length};
 ghost use Rattle.roster_model.specs.Scores.{bids_of};
 
-use crate::drawer::Drawer;
 use crate::lines::bid_line;
+use month_files::Texts;
 use roster_model::{Bid, Problem};
 
 /// A bid of a member, by number, each from 0.
@@ -30,9 +30,9 @@ pub fn bid_at(problem: &Problem, member: u32, bid: u32) -> &Bid
 }
 
 /// The line of a bid.
-pub fn line_of(drawer: &Drawer, problem: &Problem, at: At) -> u64 {
+pub fn line_of(texts: &Texts, problem: &Problem, at: At) -> u64 {
     match problem.base.members.as_slice().get(at.member as usize) {
-        Some(known) => bid_line(&drawer.bids, known.name.bytes(), at.bid),
+        Some(known) => bid_line(&texts.bids, known.name.bytes(), at.bid),
         None => 1,
     }
 }

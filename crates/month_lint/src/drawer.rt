@@ -1,9 +1,8 @@
-//! The eight files of a month, with what is taken out of them.
+//! The eight texts of a month, from which rows with faults are taken out.
 
-use crate::sheet::Sheet;
-use duty_calendar::{Memory, Name};
+use crate::rows::blank_row;
+use duty_calendar::Memory;
 use field_text::FileName;
-use itoa::Buffer;
 use month_files::Texts;
 use std::alloc::Global;
 
@@ -13,23 +12,16 @@ struct Spoilt {
     name: Vec<u8>,
 }
 
-/// The eight files of a month, with what is taken out of them.
+/// The eight texts of a month, with what was taken out of them.
 #[derive(Drop)]
 pub struct Drawer {
     alloc: Global,
-    pub rules: Vec<u8>,
-    pairings: Sheet,
-    duties: Sheet,
-    legs: Sheet,
-    crew: Sheet,
-    history: Sheet,
-    fixed: Sheet,
-    pub bids: Vec<u8>,
+    pub texts: Texts,
     /// Whether the base is not known.
     pub no_base: bool,
-    /// Whether no row of pairings is read.
+    /// Whether the pairings were given up.
     pub no_trips: bool,
-    /// Whether no row of pilots is read.
+    /// Whether the pilots were given up.
     pub no_crew: bool,
     spoilt: Vec<Spoilt>,
 }
@@ -41,91 +33,61 @@ fn copied(alloc: Global, bytes: &[u8]) -> Result<Vec<u8>, Memory> {
     Ok(copy)
 }
 
-/// What is left of a file, or another text in its place where none of its rows is read.
-fn text_of(
-    alloc: Global,
-    sheet: &Sheet,
-    unread: bool,
-    instead: &'static [u8],
-) -> Result<Vec<u8>, Memory> {
-    if unread {
-        return copied(alloc, instead);
-    }
-    sheet.text()
-}
-
 impl Drawer {
-    /// The files that were read.
-    pub fn new(alloc: Global, texts: Texts) -> Result<Drawer, Memory> {
-        let Texts {
-            rules,
-            pairings,
-            duties,
-            legs,
-            crew,
-            history,
-            fixed,
-            bids,
-        } = texts;
-        Ok(Drawer {
+    /// The texts that were read.
+    pub fn new(alloc: Global, texts: Texts) -> Drawer {
+        Drawer {
             alloc,
-            rules,
-            pairings: Sheet::new(alloc, pairings)?,
-            duties: Sheet::new(alloc, duties)?,
-            legs: Sheet::new(alloc, legs)?,
-            crew: Sheet::new(alloc, crew)?,
-            history: Sheet::new(alloc, history)?,
-            fixed: Sheet::new(alloc, fixed)?,
-            bids,
+            texts,
             no_base: false,
             no_trips: false,
             no_crew: false,
             spoilt: Vec::new(alloc),
-        })
-    }
-
-    /// The sheet of a file.
-    pub fn sheet_of(&self, file: FileName) -> &Sheet {
-        match file {
-            FileName::Pairings => &self.pairings,
-            FileName::Duties => &self.duties,
-            FileName::Legs => &self.legs,
-            FileName::Crew => &self.crew,
-            FileName::History => &self.history,
-            FileName::Fixed => &self.fixed,
         }
     }
 
-    /// Takes the row at a place of a file out.
-    pub fn take(&mut self, file: FileName, place: usize) {
+    /// The text of a file.
+    pub fn text_of(&self, file: FileName) -> &[u8] {
         match file {
-            FileName::Pairings => self.pairings.take(place),
-            FileName::Duties => self.duties.take(place),
-            FileName::Legs => self.legs.take(place),
-            FileName::Crew => self.crew.take(place),
-            FileName::History => self.history.take(place),
-            FileName::Fixed => self.fixed.take(place),
+            FileName::Pairings => &self.texts.pairings,
+            FileName::Duties => &self.texts.duties,
+            FileName::Legs => &self.texts.legs,
+            FileName::Crew => &self.texts.crew,
+            FileName::History => &self.texts.history,
+            FileName::Fixed => &self.texts.fixed,
         }
     }
 
-    /// What is left of the files. Where the pilots are not read there is one whose name none has.
-    pub fn left(&self) -> Result<Texts, Memory> {
+    /// Takes the row of a number out of a file.
+    pub fn take(&mut self, file: FileName, number: u32) -> Result<(), Memory> {
         let alloc = self.alloc;
-        let pairings = b"pairing,need,credit\n";
-        let duties = b"pairing,no,report,parked,release,layover\n";
-        let legs = b"pairing,no,from,to,out,in\n";
-        let crew = b"member,low,high\n_,0:00,200:00\n";
+        match file {
+            FileName::Pairings => blank_row(alloc, &mut self.texts.pairings, number),
+            FileName::Duties => blank_row(alloc, &mut self.texts.duties, number),
+            FileName::Legs => blank_row(alloc, &mut self.texts.legs, number),
+            FileName::Crew => blank_row(alloc, &mut self.texts.crew, number),
+            FileName::History => blank_row(alloc, &mut self.texts.history, number),
+            FileName::Fixed => blank_row(alloc, &mut self.texts.fixed, number),
+        }
+    }
+
+    /// Gives up the pairings.
+    pub fn lose_trips(&mut self) -> Result<(), Memory> {
+        self.no_trips = true;
+        self.texts.pairings = copied(self.alloc, b"pairing,need,credit\n")?;
+        self.texts.duties = copied(self.alloc, b"pairing,no,report,parked,release,layover\n")?;
+        self.texts.legs = copied(self.alloc, b"pairing,no,from,to,out,in\n")?;
+        Ok(())
+    }
+
+    /// Gives up the pilots, but for one whose name none has.
+    pub fn lose_crew(&mut self) -> Result<(), Memory> {
         let events = b"member,kind,report,parked,release,legs,credit\n";
-        Ok(Texts {
-            rules: copied(alloc, &self.rules)?,
-            pairings: text_of(alloc, &self.pairings, self.no_trips, pairings)?,
-            duties: text_of(alloc, &self.duties, self.no_trips, duties)?,
-            legs: text_of(alloc, &self.legs, self.no_trips, legs)?,
-            crew: text_of(alloc, &self.crew, self.no_crew, crew)?,
-            history: text_of(alloc, &self.history, self.no_crew, events)?,
-            fixed: text_of(alloc, &self.fixed, self.no_crew, events)?,
-            bids: copied(alloc, &self.bids)?,
-        })
+        self.no_crew = true;
+        self.texts.crew = copied(self.alloc, b"member,low,high\n_,0:00,200:00\n")?;
+        self.texts.history = copied(self.alloc, events)?;
+        self.texts.fixed = copied(self.alloc, events)?;
+        Ok(())
     }
 
     /// Notes that a name stands in a row that has a fault.
@@ -138,32 +100,5 @@ impl Drawer {
     /// Whether a name stands in a row that has a fault.
     pub fn is_spoilt(&self, name: &[u8]) -> bool {
         self.spoilt.iter().any(|row| row.name.as_slice() == name)
-    }
-
-    /// The line of a pairing, by number from 0.
-    pub fn pairing_line(&self, pairing: u32) -> u64 {
-        self.pairings.line_of(pairing.saturating_add(2))
-    }
-
-    /// The line of a pilot, by number from 0.
-    pub fn pilot_line(&self, member: u32) -> u64 {
-        self.crew.line_of(member.saturating_add(2))
-    }
-
-    /// The line of a row of a pilot's history, by number from 0.
-    pub fn history_line(&self, pilot: &Name, row: u32) -> Result<u64, Memory> {
-        self.history.find(pilot.bytes(), b"", row)
-    }
-
-    /// The line of a duty of a pairing, by number from 0.
-    pub fn duty_line(&self, pairing: &Name, duty: u32) -> Result<u64, Memory> {
-        self.duties.find(pairing.bytes(), b"", duty)
-    }
-
-    /// The line of a leg of a duty of a pairing, by numbers from 0.
-    pub fn leg_line(&self, pairing: &Name, duty: u32, leg: u32) -> Result<u64, Memory> {
-        let mut buffer = Buffer::new();
-        let number = buffer.format(duty.saturating_add(1)).as_bytes();
-        self.legs.find(pairing.bytes(), number, leg)
     }
 }

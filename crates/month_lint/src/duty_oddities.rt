@@ -1,9 +1,9 @@
 //! Duties and legs that look wrong.
 
-use crate::drawer::Drawer;
 use crate::findings::Findings;
+use crate::rows::{leg_line, named_line};
 use duty_calendar::{Duty, Leg, Memory, Pairing, Station};
-use month_files::File;
+use month_files::{File, Texts};
 use roster_model::Problem;
 
 /// The most minutes between two duties of a pairing that do not look wrong.
@@ -19,52 +19,76 @@ struct Post<'a> {
     duty: u32,
 }
 
-/// A station, and words before it.
-#[derive(Clone, Copy)]
-struct Said {
-    words: &'static [u8],
-    station: Station,
+/// The number of the last of so many, from 0.
+fn last_of(count: usize) -> u32 {
+    u32::try_from(count.saturating_sub(1)).unwrap_or(u32::MAX)
 }
 
+/// The line of a duty.
+fn line_of_duty(found: &Findings, texts: &Texts, post: Post<'_>) -> Result<u64, Memory> {
+    named_line(found.alloc(), &texts.duties, &post.pairing.name, post.duty)
+}
+
+/// The line of a leg of a duty, by number from 0.
+fn line_of_leg(found: &Findings, texts: &Texts, post: Post<'_>, leg: u32) -> Result<u64, Memory> {
+    leg_line(
+        found.alloc(),
+        &texts.legs,
+        &post.pairing.name,
+        post.duty,
+        leg,
+    )
+}
+
+/// What is said of two stations of which one should be the other: words before each of them.
+#[derive(Clone, Copy)]
+struct Clash {
+    one: &'static [u8],
+    other: &'static [u8],
+}
+
+static GAP: Clash = Clash {
+    one: b"the leg leaves from ",
+    other: b", and the leg before it ends at ",
+};
+
+static ELSEWHERE: Clash = Clash {
+    one: b"the layover is at ",
+    other: b", and the last leg of the duty ends at ",
+};
+
+static AWAY: Clash = Clash {
+    one: b"the pairing begins at ",
+    other: b", and the base is ",
+};
+
+static ASTRAY: Clash = Clash {
+    one: b"no leg goes home: the pairing ends at ",
+    other: b", and the base is ",
+};
+
 /// Notes two stations of which one should be the other.
-fn note_stations(
+fn note_clash(
     found: &mut Findings,
     file: File,
     line: u64,
-    one: Said,
-    other: Said,
+    clash: &Clash,
+    one: Station,
+    other: Station,
 ) -> Result<(), Memory> {
     let mut words = found.words();
-    words.say(one.words)?;
-    words.text(&one.station.bytes())?;
-    words.say(other.words)?;
-    words.text(&other.station.bytes())?;
+    words.say(clash.one)?;
+    words.text(&one.bytes())?;
+    words.say(clash.other)?;
+    words.text(&other.bytes())?;
     found.add(file, line, words)
-}
-
-/// Notes that a leg leaves from another station than the one at which the leg before it ends.
-fn note_gap(
-    found: &mut Findings,
-    line: u64,
-    station: Station,
-    before: Station,
-) -> Result<(), Memory> {
-    let one = Said {
-        words: b"the leg leaves from ",
-        station,
-    };
-    let other = Said {
-        words: b", and the leg before it ends at ",
-        station: before,
-    };
-    note_stations(found, File::Legs, line, one, other)
 }
 
 /// Notes each leg of a duty that leaves from another station than the one at which the leg before it ends. The answer is
 /// where the last leg ends.
 fn note_legs(
     found: &mut Findings,
-    drawer: &Drawer,
+    texts: &Texts,
     post: Post<'_>,
     legs: &[Leg],
     before: Option<Station>,
@@ -74,8 +98,8 @@ fn note_legs(
     for leg in legs {
         if let Some(station) = last {
             if station != leg.from {
-                let line = drawer.leg_line(&post.pairing.name, post.duty, number)?;
-                note_gap(found, line, leg.from, station)?;
+                let line = line_of_leg(found, texts, post, number)?;
+                note_clash(found, File::Legs, line, &GAP, leg.from, station)?;
             }
         }
         last = Some(leg.to);
@@ -84,56 +108,61 @@ fn note_legs(
     Ok(last)
 }
 
+/// Notes plain words of a duty.
+fn note_duty(
+    found: &mut Findings,
+    texts: &Texts,
+    post: Post<'_>,
+    text: &'static [u8],
+) -> Result<(), Memory> {
+    let line = line_of_duty(found, texts, post)?;
+    found.say(File::Duties, line, text)
+}
+
 /// Notes a layover that is missing, is elsewhere than where the duty ends, or follows the last duty.
 fn note_layover(
     found: &mut Findings,
-    line: u64,
-    is_last: bool,
+    texts: &Texts,
+    post: Post<'_>,
     layover: Option<Station>,
     end: Option<Station>,
 ) -> Result<(), Memory> {
-    let Some(station) = layover else {
-        if is_last {
-            return Ok(());
+    let is_last = post.duty == last_of(post.pairing.duties.len());
+    match layover {
+        None if is_last => Ok(()),
+        None => {
+            let text = b"the duty has no layover, and another duty of the pairing follows";
+            note_duty(found, texts, post, text)
         }
-        let text = b"the duty has no layover, and another duty of the pairing follows";
-        return found.say(File::Duties, line, text);
-    };
-    if is_last {
-        let text = b"the last duty of the pairing has a layover";
-        return found.say(File::Duties, line, text);
-    }
-    match end {
-        Some(end) if end != station => {
-            let one = Said {
-                words: b"the layover is at ",
-                station,
-            };
-            let other = Said {
-                words: b", and the last leg of the duty ends at ",
-                station: end,
-            };
-            note_stations(found, File::Duties, line, one, other)
+        Some(_) if is_last => {
+            let text = b"the last duty of the pairing has a layover";
+            note_duty(found, texts, post, text)
         }
-        _ => Ok(()),
+        Some(station) => match end {
+            Some(end) if end != station => {
+                let line = line_of_duty(found, texts, post)?;
+                note_clash(found, File::Duties, line, &ELSEWHERE, station, end)
+            }
+            _ => Ok(()),
+        },
     }
 }
 
 /// Notes a duty that is long, or far from the one before it.
 fn note_times(
     found: &mut Findings,
-    line: u64,
+    texts: &Texts,
+    post: Post<'_>,
     duty: &Duty,
-    released: Option<u32>,
+    released: u32,
 ) -> Result<(), Memory> {
     if duty.release.saturating_sub(duty.report) > LONGEST_DUTY {
         let text = b"the duty is longer than 24 hours: is a date wrong?";
-        found.say(File::Duties, line, text)?;
+        note_duty(found, texts, post, text)?;
     }
-    let rest = duty.report.saturating_sub(released.unwrap_or(duty.report));
-    if rest > LONGEST_REST {
+    if duty.report.saturating_sub(released) > LONGEST_REST {
         let text = b"more than 4 days lie between the duty and the one before it: is a date wrong?";
-        found.say(File::Duties, line, text)?;
+        note_duty(found, texts, post, text)?;
     }
     Ok(())
 }
@@ -141,24 +170,22 @@ fn note_times(
 /// Notes what looks wrong in the duties of a pairing. The answer is where the last leg ends.
 fn note_duties(
     found: &mut Findings,
-    drawer: &Drawer,
+    texts: &Texts,
     pairing: &Pairing,
 ) -> Result<Option<Station>, Memory> {
     let mut end: Option<Station> = None;
-    let mut released: Option<u32> = None;
+    let mut released: u32 = u32::MAX;
     let mut number: u32 = 0;
     for duty in pairing.duties.as_slice() {
-        let line = drawer.duty_line(&pairing.name, number)?;
         let post = Post {
             pairing,
             duty: number,
         };
+        end = note_legs(found, texts, post, duty.legs.as_slice(), end)?;
+        note_layover(found, texts, post, duty.layover, end)?;
+        note_times(found, texts, post, duty, released)?;
+        released = duty.release;
         number = number.saturating_add(1);
-        let is_last = number as usize == pairing.duties.len();
-        end = note_legs(found, drawer, post, duty.legs.as_slice(), end)?;
-        note_layover(found, line, is_last, duty.layover, end)?;
-        note_times(found, line, duty, released)?;
-        released = Some(duty.release);
     }
     Ok(end)
 }
@@ -166,7 +193,7 @@ fn note_duties(
 /// Notes that a pairing does not begin at the base.
 fn note_begin(
     found: &mut Findings,
-    drawer: &Drawer,
+    texts: &Texts,
     pairing: &Pairing,
     base: Station,
 ) -> Result<(), Memory> {
@@ -175,72 +202,57 @@ fn note_begin(
     };
     match duty.legs.as_slice().first() {
         Some(leg) if leg.from != base => {
-            let line = drawer.leg_line(&pairing.name, 0, 0)?;
-            let one = Said {
-                words: b"the pairing begins at ",
-                station: leg.from,
-            };
-            let other = Said {
-                words: b", and the base is ",
-                station: base,
-            };
-            note_stations(found, File::Legs, line, one, other)
+            let line = line_of_leg(found, texts, Post { pairing, duty: 0 }, 0)?;
+            note_clash(found, File::Legs, line, &AWAY, leg.from, base)
         }
         _ => Ok(()),
     }
 }
 
-/// The number of the last of so many, from 0.
-fn last_of(count: usize) -> u32 {
-    u32::try_from(count.saturating_sub(1)).unwrap_or(u32::MAX)
-}
-
 /// The line of the last leg of a pairing.
-fn last_line(drawer: &Drawer, pairing: &Pairing) -> Result<u64, Memory> {
-    let Some(duty) = pairing.duties.as_slice().last() else {
-        return Ok(1);
+fn last_line(found: &Findings, texts: &Texts, pairing: &Pairing) -> Result<u64, Memory> {
+    let Some(last) = pairing.duties.as_slice().last() else {
+        return Ok(0);
     };
-    let number = last_of(pairing.duties.len());
-    drawer.leg_line(&pairing.name, number, last_of(duty.legs.len()))
+    let duty = last_of(pairing.duties.len());
+    line_of_leg(
+        found,
+        texts,
+        Post { pairing, duty },
+        last_of(last.legs.len()),
+    )
 }
 
 /// Notes that a pairing does not end at the base.
 fn note_end(
     found: &mut Findings,
-    drawer: &Drawer,
+    texts: &Texts,
     pairing: &Pairing,
     base: Station,
     end: Option<Station>,
 ) -> Result<(), Memory> {
     match end {
         Some(station) if station != base => {
-            let line = last_line(drawer, pairing)?;
-            let one = Said {
-                words: b"no leg goes home: the pairing ends at ",
-                station,
-            };
-            let other = Said {
-                words: b", and the base is ",
-                station: base,
-            };
-            note_stations(found, File::Legs, line, one, other)
+            let line = last_line(found, texts, pairing)?;
+            note_clash(found, File::Legs, line, &ASTRAY, station, base)
         }
         _ => Ok(()),
     }
 }
 
-/// Notes what looks wrong in the duties and legs of the pairings.
+/// Notes what looks wrong in the duties and legs of the pairings; where the base is known, in where they begin and end too.
 pub fn note_pairings(
     found: &mut Findings,
-    drawer: &Drawer,
+    texts: &Texts,
     problem: &Problem,
+    base_known: bool,
 ) -> Result<(), Memory> {
     let base = problem.base.rules.base;
     for pairing in problem.base.pairings.as_slice() {
-        let end = note_duties(found, drawer, pairing)?;
-        if !drawer.no_base {
-            note_begin(found, drawer, pairing, base)?;
-            note_end(found, drawer, pairing, base, end)?;
+        let end = note_duties(found, texts, pairing)?;
+        if base_known {
+            note_begin(found, texts, pairing, base)?;
+            note_end(found, texts, pairing, base, end)?;
         }
     }
     Ok(())

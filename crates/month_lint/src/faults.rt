@@ -27,13 +27,12 @@ fn are_short(texts: &Texts) -> bool
         && texts.bids.len() <= LONGEST
 }
 
-/// The month that is left of the files, or its first fault; nothing where they are too long to be read.
-fn month_of(alloc: Global, drawer: &Drawer) -> Result<Option<Result<Problem, BadInput>>, Memory> {
-    let texts = drawer.left()?;
-    if are_short(&texts) {
-        return Ok(Some(read_month(alloc, &texts)));
+/// The month that the texts are left with, or its first fault; nothing where they are too long to be read.
+fn month_of(alloc: Global, drawer: &Drawer) -> Option<Result<Problem, BadInput>> {
+    if are_short(&drawer.texts) {
+        return Some(read_month(alloc, &drawer.texts));
     }
-    Ok(None)
+    None
 }
 
 /// Notes each fault, and gives what is left without them, where that can be read.
@@ -42,7 +41,7 @@ pub fn without_faults(
     drawer: &mut Drawer,
 ) -> Result<Option<Problem>, Memory> {
     for _ in 0..5_000_u32 {
-        match month_of(found.alloc(), drawer)? {
+        match month_of(found.alloc(), drawer) {
             None => return Ok(None),
             Some(Ok(problem)) => return Ok(Some(problem)),
             Some(Err(BadInput::NoMemory)) => return Err(Memory::NoMemory),

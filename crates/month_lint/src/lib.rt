@@ -13,7 +13,7 @@ mod linting;
 mod lone;
 mod mending;
 mod pilot_oddities;
-mod sheet;
+mod rows;
 mod trip_oddities;
 mod verdict;
 

@@ -22,19 +22,18 @@ use shelf::Shelf;
 use std::alloc::Global;
 
 /// Notes what looks wrong in a month.
-fn note_oddities(found: &mut Findings, texts: Texts, problem: &Problem) -> Result<(), Memory> {
-    let drawer = Drawer::new(found.alloc(), texts)?;
-    note_pairings(found, &drawer, problem)?;
-    note_crew(found, &drawer, problem)?;
-    note_trips(found, &drawer, problem)?;
-    note_bids(found, &drawer, problem)
+fn note_oddities(found: &mut Findings, texts: &Texts, problem: &Problem) -> Result<(), Memory> {
+    note_pairings(found, texts, problem, true)?;
+    note_crew(found, texts, problem)?;
+    note_trips(found, texts, problem)?;
+    note_bids(found, texts, problem)
 }
 
-/// Notes the faults of files that name no month, and what looks wrong in the pairings that can be read.
+/// Notes the faults of texts that name no month, and what looks wrong in the pairings that can be read.
 fn note_faults(found: &mut Findings, texts: Texts) -> Result<(), Memory> {
-    let mut drawer = Drawer::new(found.alloc(), texts)?;
+    let mut drawer = Drawer::new(found.alloc(), texts);
     match without_faults(found, &mut drawer)? {
-        Some(problem) => note_pairings(found, &drawer, &problem),
+        Some(problem) => note_pairings(found, &drawer.texts, &problem, !drawer.no_base),
         None => Ok(()),
     }
 }
@@ -47,7 +46,7 @@ fn look_at(found: &mut Findings, texts: Texts) -> Result<Verdict, Memory>
 {
     match read_month(found.alloc(), &texts) {
         Ok(problem) => {
-            note_oddities(found, texts, &problem)?;
+            note_oddities(found, &texts, &problem)?;
             if found.is_empty() {
                 return Ok(Verdict::Clean);
             }

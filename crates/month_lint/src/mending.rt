@@ -3,6 +3,7 @@
 use crate::drawer::Drawer;
 use crate::findings::Findings;
 use crate::lines::{silence, silence_bid};
+use crate::rows::name_in;
 use bid_language::{BidCode, BidFault, Word};
 use duty_calendar::Memory;
 use field_text::{FileCode, FileFault, FileName};
@@ -20,22 +21,19 @@ pub enum Mended {
     Stop,
 }
 
-/// Notes the fault of the row at a place of a file.
-fn note_row(
-    found: &mut Findings,
-    drawer: &Drawer,
-    fault: FileFault,
-    place: usize,
-) -> Result<(), Memory> {
-    let sheet = drawer.sheet_of(fault.file);
-    let row = u32::try_from(place).unwrap_or(u32::MAX).saturating_add(1);
-    let there = FileFault { row, ..fault };
+/// Notes the fault of a row.
+fn note_row(found: &mut Findings, drawer: &Drawer, fault: FileFault) -> Result<(), Memory> {
     let mut words = found.words();
-    match row_mark(found.alloc(), sheet.bytes(), there)? {
-        Some(mark) => put_row_flaw(&mut words, fault, mark.word)?,
-        None => put_row_flaw(&mut words, fault, b"")?,
+    match row_mark(found.alloc(), drawer.text_of(fault.file), fault)? {
+        Some(mark) => {
+            put_row_flaw(&mut words, fault, mark.word)?;
+            found.add(file_of(fault.file), mark.line, words)
+        }
+        None => {
+            put_row_flaw(&mut words, fault, b"")?;
+            found.add(file_of(fault.file), 0, words)
+        }
     }
-    found.add(file_of(fault.file), sheet.line(place), words)
 }
 
 /// Whether nothing more of the files of its kind can be read behind a fault.
@@ -46,19 +44,12 @@ fn ends_all(fault: FileFault) -> bool {
     }
 }
 
-/// Notes the fault of the row at a place, and gives up the files of its kind.
-fn give_up(
-    found: &mut Findings,
-    drawer: &mut Drawer,
-    fault: FileFault,
-    place: usize,
-) -> Result<(), Memory> {
-    note_row(found, drawer, fault, place)?;
-    match fault.file {
-        FileName::Crew | FileName::History | FileName::Fixed => drawer.no_crew = true,
-        FileName::Pairings | FileName::Duties | FileName::Legs => drawer.no_trips = true,
+/// Gives up the files of a kind.
+fn give_up(drawer: &mut Drawer, file: FileName) -> Result<(), Memory> {
+    match file {
+        FileName::Crew | FileName::History | FileName::Fixed => drawer.lose_crew(),
+        FileName::Pairings | FileName::Duties | FileName::Legs => drawer.lose_trips(),
     }
-    Ok(())
 }
 
 /// Whether rows elsewhere that have the name of a row with a fault are not looked at.
@@ -77,35 +68,28 @@ fn may_follow(code: FileCode) -> bool {
     )
 }
 
-/// Notes a fault of the row at a place, unless it may follow from one that was noted.
-fn note_named(
-    found: &mut Findings,
-    drawer: &mut Drawer,
-    fault: FileFault,
-    place: usize,
-) -> Result<(), Memory> {
-    let mut name = Vec::new(found.alloc());
-    name.extend_from_slice(drawer.sheet_of(fault.file).name_at(place)?)?;
+/// Notes a fault of a row, unless it may follow from one that was noted.
+fn note_first(found: &mut Findings, drawer: &mut Drawer, fault: FileFault) -> Result<(), Memory> {
+    let alloc = found.alloc();
+    let mut name = Vec::new(alloc);
+    name.extend_from_slice(name_in(alloc, drawer.text_of(fault.file), fault.row)?)?;
     if may_follow(fault.code) && drawer.is_spoilt(&name) {
         return Ok(());
     }
     if spoils_name(fault) {
         drawer.spoil(&name)?;
     }
-    note_row(found, drawer, fault, place)
+    note_row(found, drawer, fault)
 }
 
 /// Notes a fault of a file of rows, and takes out what has it.
 fn mend_rows(found: &mut Findings, drawer: &mut Drawer, fault: FileFault) -> Result<(), Memory> {
-    let Some(place) = drawer.sheet_of(fault.file).place_of(fault.row) else {
-        return give_up(found, drawer, fault, 0);
-    };
     if ends_all(fault) {
-        return give_up(found, drawer, fault, place);
+        note_row(found, drawer, fault)?;
+        return give_up(drawer, fault.file);
     }
-    note_named(found, drawer, fault, place)?;
-    drawer.take(fault.file, place);
-    Ok(())
+    note_first(found, drawer, fault)?;
+    drawer.take(fault.file, fault.row)
 }
 
 /// Whether a fault of bids follows from one that was said already.
@@ -131,13 +115,13 @@ fn mend_bids(found: &mut Findings, drawer: &mut Drawer, fault: &BidFault) -> Res
     let Some(at) = bid_place(fault) else {
         return Err(Memory::NoMemory);
     };
-    let place = line_place(&drawer.bids, at.line, at.column);
+    let place = line_place(&drawer.texts.bids, at.line, at.column);
     if !follows(drawer, fault.code, place.word) {
         let mut words = found.words();
         put_bid_flaw(&mut words, at.flaw, &place)?;
         found.add(File::Bids, at.line, words)?;
     }
-    silence_bid(&mut drawer.bids, at.line, goes_on(at, fault.code));
+    silence_bid(&mut drawer.texts.bids, at.line, goes_on(at, fault.code));
     Ok(())
 }
 
@@ -160,7 +144,7 @@ fn mend_value(drawer: &mut Drawer, key: &[u8]) -> Result<Mended, Memory> {
     match stand_in(key) {
         Some(line) => {
             drawer.no_base = drawer.no_base || key == b"base".as_slice();
-            drawer.rules.extend_from_slice(line)?;
+            drawer.texts.rules.extend_from_slice(line)?;
             Ok(Mended::Again)
         }
         None => Ok(Mended::Stop),
@@ -177,7 +161,7 @@ fn mend_flaw(drawer: &mut Drawer, flaw: RuleFlaw, key: &[u8], line: u64) -> Resu
     if line == 0 {
         return Ok(Mended::Stop);
     }
-    silence(&mut drawer.rules, line);
+    silence(&mut drawer.texts.rules, line);
     match flaw {
         RuleFlaw::Range => mend_value(drawer, key),
         _ => Ok(Mended::Again),
@@ -193,7 +177,7 @@ fn mend_rules(
     let Some(Answer::Rules(flaw, key)) = rule_answer(fault) else {
         return Err(Memory::NoMemory);
     };
-    let line = match rule_mark(&drawer.rules, flaw, key) {
+    let line = match rule_mark(&drawer.texts.rules, flaw, key) {
         Some(place) => place.line,
         None => 0,
     };

@@ -1,20 +1,25 @@
 //! Pilots that look wrong.
 ghost use Rattle.std.specs.Prelude.{◌<◌, length};
 
-use crate::drawer::Drawer;
 use crate::findings::Findings;
 use crate::lone::empty_line;
+use crate::rows::{named_line, row_line};
 use crate::trip_oddities::{credit_of, stays};
 use bid_score::days_off;
 use duty_calendar::{Kind, Member, Memory};
 use line_legality::{Illegal, legal};
-use month_files::File;
+use month_files::{File, Texts};
 use plain_answers::put_rule;
 use roster_model::Problem;
 use std::alloc::Global;
 
 /// The minute at which the month begins.
 const MONTH_START: u32 = 525_600;
+
+/// The line of a pilot, by number from 0.
+fn pilot_line(alloc: Global, texts: &Texts, number: u32) -> Result<u64, Memory> {
+    row_line(alloc, &texts.crew, number.saturating_add(2))
+}
 
 /// Notes plain words of a pilot.
 fn note_pilot(
@@ -31,11 +36,11 @@ fn note_pilot(
 }
 
 /// Notes leave in the history of a pilot, but for leave that goes on in the month.
-fn note_leave(found: &mut Findings, drawer: &Drawer, member: &Member) -> Result<(), Memory> {
+fn note_leave(found: &mut Findings, texts: &Texts, member: &Member) -> Result<(), Memory> {
     let mut number: u32 = 0;
     for event in member.history.as_slice() {
         if event.kind == Kind::Leave && event.release < MONTH_START {
-            let line = drawer.history_line(&member.name, number)?;
+            let line = named_line(found.alloc(), &texts.history, &member.name, number)?;
             let text = b"leave before the month counts for nothing: was it duty?";
             found.say(File::History, line, text)?;
         }
@@ -98,7 +103,7 @@ fn note_broken(
 /// Notes what looks wrong of a pilot, where the pairings have so much credit in all.
 fn note_member(
     found: &mut Findings,
-    drawer: &Drawer,
+    texts: &Texts,
     problem: &Problem,
     number: u32,
     credit: u64,
@@ -106,12 +111,12 @@ fn note_member(
     requires member { number < length problem.now.base.members }
 {
     let member = &problem.base.members.as_slice()[number as usize];
-    let line = drawer.pilot_line(number);
+    let line = pilot_line(found.alloc(), texts, number)?;
     if credit.saturating_add(credit_of(member.fixed.as_slice())) < u64::from(member.low) {
         let text = b" cannot come to low, even with all pairings of the month";
         note_pilot(found, line, member, text)?;
     }
-    note_leave(found, drawer, member)?;
+    note_leave(found, texts, member)?;
     let why = broken(found.alloc(), problem, number)?;
     note_broken(found, line, problem, member, why)
 }
@@ -122,7 +127,7 @@ fn has_history(members: &[Member]) -> bool {
 }
 
 /// Notes pilots without history.
-fn note_history(found: &mut Findings, drawer: &Drawer, members: &[Member]) -> Result<(), Memory> {
+fn note_history(found: &mut Findings, texts: &Texts, members: &[Member]) -> Result<(), Memory> {
     if !has_history(members) {
         let text = b"no pilot has history, so nothing before the month counts";
         return found.say(File::History, 0, text);
@@ -130,7 +135,7 @@ fn note_history(found: &mut Findings, drawer: &Drawer, members: &[Member]) -> Re
     let mut number: u32 = 0;
     for member in members {
         if member.history.len() == 0 {
-            let line = drawer.pilot_line(number);
+            let line = pilot_line(found.alloc(), texts, number)?;
             note_pilot(found, line, member, b" has no history, and others have")?;
         }
         number = number.saturating_add(1);
@@ -139,11 +144,11 @@ fn note_history(found: &mut Findings, drawer: &Drawer, members: &[Member]) -> Re
 }
 
 /// Notes what looks wrong of pilots.
-pub fn note_crew(found: &mut Findings, drawer: &Drawer, problem: &Problem) -> Result<(), Memory> {
+pub fn note_crew(found: &mut Findings, texts: &Texts, problem: &Problem) -> Result<(), Memory> {
     let credit = credit_once(problem);
-    note_history(found, drawer, problem.base.members.as_slice())?;
+    note_history(found, texts, problem.base.members.as_slice())?;
     for number in 0..problem.base.members.len() as u32 {
-        note_member(found, drawer, problem, number, credit)?;
+        note_member(found, texts, problem, number, credit)?;
     }
     Ok(())
 }

@@ -1,12 +1,12 @@
 //! Pairings that no pilot may fly, and credit that does not fit.
 ghost use Rattle.std.specs.Prelude.{◌<◌, length};
 
-use crate::drawer::Drawer;
 use crate::findings::Findings;
 use crate::lone::line_alone;
+use crate::rows::row_line;
 use duty_calendar::{Event, Member, Memory};
 use line_legality::{Illegal, legal};
-use month_files::File;
+use month_files::{File, Texts};
 use roster_model::Problem;
 use std::alloc::Global;
 
@@ -49,10 +49,21 @@ fn some_may_fly(alloc: Global, problem: &Problem, pairing: u32) -> Result<bool, 
     Ok(false)
 }
 
+/// Notes plain words of a pairing, by number from 0.
+fn note_pairing(
+    found: &mut Findings,
+    texts: &Texts,
+    pairing: u32,
+    text: &'static [u8],
+) -> Result<(), Memory> {
+    let line = row_line(found.alloc(), &texts.pairings, pairing.saturating_add(2))?;
+    found.say(File::Pairings, line, text)
+}
+
 /// Notes a pairing that needs more pilots than there are, or that no pilot may fly.
 fn note_trip(
     found: &mut Findings,
-    drawer: &Drawer,
+    texts: &Texts,
     problem: &Problem,
     pairing: u32,
 ) -> Result<(), Memory>
@@ -61,14 +72,14 @@ fn note_trip(
     let need = problem.base.pairings.as_slice()[pairing as usize].need;
     if need as usize > problem.base.members.len() {
         let text = b"the pairing needs more pilots than crew.csv has";
-        found.say(File::Pairings, drawer.pairing_line(pairing), text)?;
+        note_pairing(found, texts, pairing, text)?;
     }
     if some_may_fly(found.alloc(), problem, pairing)? {
         return Ok(());
     }
     let text =
         b"no pilot may fly the pairing: with history and fixed rows it breaks a rule for each of them";
-    found.say(File::Pairings, drawer.pairing_line(pairing), text)
+    note_pairing(found, texts, pairing, text)
 }
 
 /// The credit of events.
@@ -126,20 +137,19 @@ fn note_credit(
 }
 
 /// Notes pairings that cannot be flown, and credit that does not fit.
-pub fn note_trips(found: &mut Findings, drawer: &Drawer, problem: &Problem) -> Result<(), Memory> {
+pub fn note_trips(found: &mut Findings, texts: &Texts, problem: &Problem) -> Result<(), Memory> {
     for pairing in 0..problem.base.pairings.len() as u32 {
-        note_trip(found, drawer, problem, pairing)?;
+        note_trip(found, texts, problem, pairing)?;
     }
     let flown = credit_flown(problem);
     let room = room_of(problem.base.members.as_slice());
     if flown < room.least {
         let text =
-            b" of credit in all, too little for what the pilots must have together beside fixed rows, ";
+            b" of credit in all, too little: beside fixed rows the pilots must fly at least ";
         note_credit(found, flown, text, room.least)?;
     }
     if flown > room.most {
-        let text =
-            b" of credit in all, too much for what the pilots may have together beside fixed rows, ";
+        let text = b" of credit in all, too much: beside fixed rows the pilots may fly at most ";
         note_credit(found, flown, text, room.most)?;
     }
     Ok(())
