@@ -85,6 +85,7 @@ fn put_line(list: &mut Prose, line: u64) -> Result<(), Memory> {
     if !list.is_empty() {
         list.say(b", ")?;
     }
+    list.say(b"line ")?;
     list.number(line)
 }
 
@@ -131,9 +132,9 @@ pub fn note_beside(
         texts,
         problem,
         at,
-        b"the pilot has the same bid in line ",
+        b"the pilot has the same wish in ",
         &same,
     )?;
-    let text = b"no line grants both the bid and that of line ";
+    let text = b"no line grants both the bid and that of ";
     note_lines(found, texts, problem, at, text, &against)
 }

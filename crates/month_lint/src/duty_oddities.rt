@@ -4,7 +4,6 @@ use crate::findings::Findings;
 use crate::rows::{leg_line, named_line};
 use duty_calendar::{Duty, Leg, Memory, Pairing, Station};
 use month_files::{File, Texts};
-use roster_model::Problem;
 
 /// The most minutes between two duties of a pairing that do not look wrong.
 const LONGEST_REST: u32 = 5_760;
@@ -240,20 +239,19 @@ fn note_end(
     }
 }
 
-/// Notes what looks wrong in the duties and legs of the pairings; where the base is known, in where they begin and end too.
-pub fn note_pairings(
+/// Notes what looks wrong in the duties and legs of a pairing.
+pub fn note_pairing(
     found: &mut Findings,
     texts: &Texts,
-    problem: &Problem,
-    base_known: bool,
+    pairing: &Pairing,
+    base: Option<Station>,
 ) -> Result<(), Memory> {
-    let base = problem.base.rules.base;
-    for pairing in problem.base.pairings.as_slice() {
-        let end = note_duties(found, texts, pairing)?;
-        if base_known {
+    let end = note_duties(found, texts, pairing)?;
+    match base {
+        Some(base) => {
             note_begin(found, texts, pairing, base)?;
-            note_end(found, texts, pairing, base, end)?;
+            note_end(found, texts, pairing, base, end)
         }
+        None => Ok(()),
     }
-    Ok(())
 }

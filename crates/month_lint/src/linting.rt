@@ -6,7 +6,7 @@ ghost use Rattle.month_lint.specs.Verdicts.{Judges, IsVerdict};
 
 use crate::bid_oddities::note_bids;
 use crate::drawer::Drawer;
-use crate::duty_oddities::note_pairings;
+use crate::duty_oddities::note_pairing;
 use crate::faults::without_faults;
 use crate::findings::Findings;
 use crate::pilot_oddities::note_crew;
@@ -23,17 +23,34 @@ use std::alloc::Global;
 
 /// Notes what looks wrong in a month.
 fn note_oddities(found: &mut Findings, texts: &Texts, problem: &Problem) -> Result<(), Memory> {
-    note_pairings(found, texts, problem, true)?;
+    for pairing in problem.base.pairings.as_slice() {
+        note_pairing(found, texts, pairing, Some(problem.base.rules.base))?;
+    }
     note_crew(found, texts, problem)?;
     note_trips(found, texts, problem)?;
     note_bids(found, texts, problem)
 }
 
-/// Notes the faults of texts that name no month, and what looks wrong in the pairings that can be read.
+/// Notes what looks wrong in the pairings without a fault of a month from which faults were taken out.
+fn note_sound(found: &mut Findings, drawer: &Drawer, problem: &Problem) -> Result<(), Memory> {
+    let base = if drawer.no_base {
+        None
+    } else {
+        Some(problem.base.rules.base)
+    };
+    for pairing in problem.base.pairings.as_slice() {
+        if !drawer.is_spoilt(pairing.name.bytes()) {
+            note_pairing(found, &drawer.texts, pairing, base)?;
+        }
+    }
+    Ok(())
+}
+
+/// Notes the faults of texts that name no month, and what looks wrong in the pairings without one.
 fn note_faults(found: &mut Findings, texts: Texts) -> Result<(), Memory> {
     let mut drawer = Drawer::new(found.alloc(), texts);
     match without_faults(found, &mut drawer)? {
-        Some(problem) => note_pairings(found, &drawer.texts, &problem, !drawer.no_base),
+        Some(problem) => note_sound(found, &drawer, &problem),
         None => Ok(()),
     }
 }

@@ -184,7 +184,12 @@ fn mend_rules(
     let mut words = found.words();
     put_rule_flaw(&mut words, flaw, key)?;
     found.add(File::Rules, line, words)?;
-    mend_flaw(drawer, flaw, key, line)
+    let mended = mend_flaw(drawer, flaw, key, line)?;
+    if mended == Mended::Stop {
+        let text = b"the other files are looked at once this is mended";
+        found.say(File::Rules, line, text)?;
+    }
+    Ok(mended)
 }
 
 /// Notes the first fault of a month, and takes out what has it.

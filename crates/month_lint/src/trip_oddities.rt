@@ -49,8 +49,8 @@ fn some_may_fly(alloc: Global, problem: &Problem, pairing: u32) -> Result<bool, 
     Ok(false)
 }
 
-/// Notes plain words of a pairing, by number from 0.
-fn note_pairing(
+/// Adds plain words of a pairing, by number from 0.
+fn say_pairing(
     found: &mut Findings,
     texts: &Texts,
     pairing: u32,
@@ -72,14 +72,14 @@ fn note_trip(
     let need = problem.base.pairings.as_slice()[pairing as usize].need;
     if need as usize > problem.base.members.len() {
         let text = b"the pairing needs more pilots than crew.csv has";
-        note_pairing(found, texts, pairing, text)?;
+        say_pairing(found, texts, pairing, text)?;
     }
     if some_may_fly(found.alloc(), problem, pairing)? {
         return Ok(());
     }
     let text =
         b"no pilot may fly the pairing: with history and fixed rows it breaks a rule for each of them";
-    note_pairing(found, texts, pairing, text)
+    say_pairing(found, texts, pairing, text)
 }
 
 /// The credit of events.
