@@ -14,7 +14,7 @@ use roster_model::{Filter, Problem, Wish, holds};
 use std::alloc::Global;
 
 /// Which of the legal lines of a member are sure to grant a bid.
-#[derive(Clone, Copy, PartialEq, Eq)]
+#[derive(Clone, Copy)]
 enum Sure {
     None,
     All,

@@ -13,7 +13,7 @@ use roster_model::{Problem, Wish};
 use std::alloc::Global;
 
 /// What two bids of a member have to do with one another.
-#[derive(Clone, Copy, PartialEq, Eq)]
+#[derive(Clone, Copy)]
 enum Pair {
     Same,
     Against,

@@ -46,7 +46,10 @@ pub fn without_faults(
             Some(Ok(problem)) => return Ok(Some(problem)),
             Some(Err(BadInput::NoMemory)) => return Err(Memory::NoMemory),
             Some(Err(BadInput::Fault(fault))) => {
-                if found.is_full() || mend(found, drawer, &fault)? == Mended::Stop {
+                if found.is_full() {
+                    return Ok(None);
+                }
+                if let Mended::Stop = mend(found, drawer, &fault)? {
                     return Ok(None);
                 }
             }

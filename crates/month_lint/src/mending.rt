@@ -15,7 +15,7 @@ use printed_lines::{Answer, BidPlace, RuleFlaw};
 use rules_file::RuleFault;
 
 /// Whether the month can be read once more.
-#[derive(Clone, Copy, Debug, PartialEq, Eq)]
+#[derive(Clone, Copy)]
 pub enum Mended {
     Again,
     Stop,
@@ -185,7 +185,7 @@ fn mend_rules(
     put_rule_flaw(&mut words, flaw, key)?;
     found.add(File::Rules, line, words)?;
     let mended = mend_flaw(drawer, flaw, key, line)?;
-    if mended == Mended::Stop {
+    if let Mended::Stop = mended {
         let text = b"the other files are looked at once this is mended";
         found.say(File::Rules, line, text)?;
     }

@@ -1,7 +1,7 @@
 //! How a month looks.
 
 /// How a month looks.
-#[derive(Clone, Copy, Debug, PartialEq, Eq)]
+#[derive(Clone, Copy)]
 pub enum Verdict {
     /// There is nothing to say.
     Clean,
