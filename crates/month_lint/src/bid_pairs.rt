@@ -127,14 +127,8 @@ pub fn note_beside(
             Pair::Apart => {}
         }
     }
-    note_lines(
-        found,
-        texts,
-        problem,
-        at,
-        b"the pilot has the same wish in ",
-        &same,
-    )?;
-    let text = b"no line grants both the bid and that of ";
-    note_lines(found, texts, problem, at, text, &against)
+    let twice = b"the pilot has the same wish in ";
+    note_lines(found, texts, problem, at, twice, &same)?;
+    let never = b"no line grants both the bid and that of ";
+    note_lines(found, texts, problem, at, never, &against)
 }

@@ -29,10 +29,10 @@ pub fn bid_at(problem: &Problem, member: u32, bid: u32) -> &Bid
     &problem.bids.as_slice()[member as usize].as_slice()[bid as usize]
 }
 
-/// The line of a bid.
+/// The line of a bid; 0 where there is none.
 pub fn line_of(texts: &Texts, problem: &Problem, at: At) -> u64 {
     match problem.base.members.as_slice().get(at.member as usize) {
         Some(known) => bid_line(&texts.bids, known.name.bytes(), at.bid),
-        None => 1,
+        None => 0,
     }
 }

@@ -72,7 +72,7 @@ fn line_stop(text: &[u8], start: usize) -> usize {
     start.saturating_add(length.unwrap_or(rest.len()))
 }
 
-/// The line of a bid of a member, by number from 0.
+/// The line of a bid of a member, by number from 0; line 0 where there is none.
 pub fn bid_line(text: &[u8], name: &[u8], bid: u32) -> u64 {
     let mut start: usize = 0;
     let mut within = false;
@@ -90,5 +90,5 @@ pub fn bid_line(text: &[u8], name: &[u8], bid: u32) -> u64 {
             left = left.saturating_sub(1);
         }
     }
-    1
+    0
 }

@@ -35,14 +35,14 @@ fn note_pilot(
     found.add(File::Crew, line, words)
 }
 
-/// Notes leave in the history of a pilot, but for leave that goes on in the month.
+/// Notes the first leave in the history of a pilot, but for leave that goes on in the month.
 fn note_leave(found: &mut Findings, texts: &Texts, member: &Member) -> Result<(), Memory> {
     let mut number: u32 = 0;
     for event in member.history.as_slice() {
         if event.kind == Kind::Leave && event.release < MONTH_START {
             let line = named_line(found.alloc(), &texts.history, &member.name, number)?;
             let text = b"leave before the month counts for nothing: was it duty?";
-            found.say(File::History, line, text)?;
+            return found.say(File::History, line, text);
         }
         number = number.saturating_add(1);
     }
