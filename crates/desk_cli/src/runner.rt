@@ -86,7 +86,9 @@ fn answer<S: Shelf>(
     shelf: &mut S,
     prose: &mut Prose,
     command: &DeskCommand,
-) -> Result<DeskStatus, Memory> {
+) -> Result<DeskStatus, Memory>
+    ensures kept { S.holds shelf.new ≡ S.holds shelf.old }
+{
     match command {
         DeskCommand::Explain(line) => explain_all(alloc, shelf, prose, line.as_bytes()),
         DeskCommand::Lint => Ok(status_of(lint(alloc, shelf, prose)?)),
@@ -102,13 +104,15 @@ fn answer<S: Shelf>(
     }
 }
 
-/// Does what a command asks, and puts what it says.
+/// Does what a command asks, and puts what it says. No file is written.
 pub fn run<S: Shelf, O: Sink>(
     alloc: Global,
     shelf: &mut S,
     out: &mut O,
     command: &DeskCommand,
-) -> DeskStatus {
+) -> DeskStatus
+    ensures kept { S.holds shelf.new ≡ S.holds shelf.old }
+{
     let mut prose = Prose::new(alloc);
     match answer(alloc, shelf, &mut prose, command) {
         Ok(status) => say(out, &prose, status),

@@ -83,15 +83,20 @@ fn note_clash(
     found.add(file, line, words)
 }
 
-/// Notes each leg of a duty that leaves from another station than the one at which the leg before it ends. The answer is
-/// where the last leg ends.
+/// Where the last leg of a duty ends.
+fn end_of(duty: &Duty) -> Option<Station> {
+    let leg = duty.legs.as_slice().last()?;
+    Some(leg.to)
+}
+
+/// Notes each leg of a duty that leaves from another station than the one at which the leg before it ends.
 fn note_legs(
     found: &mut Findings,
     texts: &Texts,
     post: Post<'_>,
     legs: &[Leg],
     before: Option<Station>,
-) -> Result<Option<Station>, Memory> {
+) -> Result<(), Memory> {
     let mut last = before;
     let mut number: u32 = 0;
     for leg in legs {
@@ -104,7 +109,7 @@ fn note_legs(
         last = Some(leg.to);
         number = number.saturating_add(1);
     }
-    Ok(last)
+    Ok(())
 }
 
 /// Notes plain words of a duty.
@@ -166,13 +171,23 @@ fn note_times(
     Ok(())
 }
 
-/// Notes what looks wrong in the duties of a pairing. The answer is where the last leg ends.
-fn note_duties(
+/// Notes what looks wrong in a duty, behind one that ends here and is released then.
+fn note_post(
     found: &mut Findings,
     texts: &Texts,
-    pairing: &Pairing,
-) -> Result<Option<Station>, Memory> {
-    let mut end: Option<Station> = None;
+    post: Post<'_>,
+    duty: &Duty,
+    before: Option<Station>,
+    released: u32,
+) -> Result<(), Memory> {
+    note_legs(found, texts, post, duty.legs.as_slice(), before)?;
+    note_layover(found, texts, post, duty.layover, end_of(duty))?;
+    note_times(found, texts, post, duty, released)
+}
+
+/// Notes what looks wrong in the duties of a pairing.
+fn note_duties(found: &mut Findings, texts: &Texts, pairing: &Pairing) -> Result<(), Memory> {
+    let mut before: Option<Station> = None;
     let mut released: u32 = u32::MAX;
     let mut number: u32 = 0;
     for duty in pairing.duties.as_slice() {
@@ -180,13 +195,12 @@ fn note_duties(
             pairing,
             duty: number,
         };
-        end = note_legs(found, texts, post, duty.legs.as_slice(), end)?;
-        note_layover(found, texts, post, duty.layover, end)?;
-        note_times(found, texts, post, duty, released)?;
+        note_post(found, texts, post, duty, before, released)?;
+        before = end_of(duty);
         released = duty.release;
         number = number.saturating_add(1);
     }
-    Ok(end)
+    Ok(())
 }
 
 /// Notes that a pairing does not begin at the base.
@@ -208,31 +222,21 @@ fn note_begin(
     }
 }
 
-/// The line of the last leg of a pairing.
-fn last_line(found: &Findings, texts: &Texts, pairing: &Pairing) -> Result<u64, Memory> {
-    let Some(last) = pairing.duties.as_slice().last() else {
-        return Ok(0);
-    };
-    let duty = last_of(pairing.duties.len());
-    line_of_leg(
-        found,
-        texts,
-        Post { pairing, duty },
-        last_of(last.legs.len()),
-    )
-}
-
 /// Notes that a pairing does not end at the base.
 fn note_end(
     found: &mut Findings,
     texts: &Texts,
     pairing: &Pairing,
     base: Station,
-    end: Option<Station>,
 ) -> Result<(), Memory> {
-    match end {
+    let Some(last) = pairing.duties.as_slice().last() else {
+        return Ok(());
+    };
+    match end_of(last) {
         Some(station) if station != base => {
-            let line = last_line(found, texts, pairing)?;
+            let duty = last_of(pairing.duties.len());
+            let leg = last_of(last.legs.len());
+            let line = line_of_leg(found, texts, Post { pairing, duty }, leg)?;
             note_clash(found, File::Legs, line, &ASTRAY, station, base)
         }
         _ => Ok(()),
@@ -246,11 +250,11 @@ pub fn note_pairing(
     pairing: &Pairing,
     base: Option<Station>,
 ) -> Result<(), Memory> {
-    let end = note_duties(found, texts, pairing)?;
+    note_duties(found, texts, pairing)?;
     match base {
         Some(base) => {
             note_begin(found, texts, pairing, base)?;
-            note_end(found, texts, pairing, base, end)
+            note_end(found, texts, pairing, base)
         }
         None => Ok(()),
     }

@@ -12,7 +12,7 @@ use crate::findings::Findings;
 use crate::pilot_oddities::note_crew;
 use crate::trip_oddities::note_trips;
 use crate::verdict::Verdict;
-use duty_calendar::Memory;
+use duty_calendar::{Memory, Station};
 use file_places::Prose;
 use month_files::{BadInput, File, Texts, Unread, read_file, read_month, read_texts};
 use plain_answers::put_trouble;
@@ -31,13 +31,17 @@ fn note_oddities(found: &mut Findings, texts: &Texts, problem: &Problem) -> Resu
     note_bids(found, texts, problem)
 }
 
+/// The base, where the rules have one.
+fn known_base(drawer: &Drawer, problem: &Problem) -> Option<Station> {
+    if drawer.no_base {
+        return None;
+    }
+    Some(problem.base.rules.base)
+}
+
 /// Notes what looks wrong in the pairings without a fault of a month from which faults were taken out.
 fn note_sound(found: &mut Findings, drawer: &Drawer, problem: &Problem) -> Result<(), Memory> {
-    let base = if drawer.no_base {
-        None
-    } else {
-        Some(problem.base.rules.base)
-    };
+    let base = known_base(drawer, problem);
     for pairing in problem.base.pairings.as_slice() {
         if !drawer.is_spoilt(pairing.name.bytes()) {
             note_pairing(found, &drawer.texts, pairing, base)?;

@@ -6,7 +6,7 @@ use roster_model::{Line, Problem};
 use std::alloc::Global;
 
 /// The line of one pairing.
-#[tactic(auto, using(crate::proofs::Lone::alone_known))]
+#[tactic(auto, using(crate::proofs::Known::alone_known))]
 pub fn line_alone(alloc: Global, problem: &Problem, pairing: u32) -> Result<Option<Line>, Memory>
     requires pairing { pairing < length problem.now.base.pairings }
     ensures known { IfOk result (λ made. IfSome made
@@ -21,7 +21,7 @@ pub fn line_alone(alloc: Global, problem: &Problem, pairing: u32) -> Result<Opti
 }
 
 /// The line without a pairing.
-#[tactic(auto, using(crate::proofs::Lone::none_known))]
+#[tactic(auto, using(crate::proofs::Known::none_known))]
 pub fn empty_line(alloc: Global, problem: &Problem) -> Option<Line>
     ensures known { IfSome result (λ line. All (λ p. p < length problem.now.base.pairings) line) }
 {
