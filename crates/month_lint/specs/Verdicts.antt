@@ -1,5 +1,5 @@
 -- What a verdict says of the files.
-use Rattle.std.specs.Prelude.{◌≡◌, ⊥, Ok, Unit}
+use Rattle.std.specs.Prelude.{◌≡◌, Ok}
 use Rattle.shelf.specs.Files.{Files}
 use Rattle.month_files.specs.Months.{Names, HasFault}
 use Rattle.month_files.specs.Reading.{Inputs, texts_in}

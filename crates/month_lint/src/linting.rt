@@ -41,9 +41,9 @@ fn known_base(drawer: &Drawer, problem: &Problem) -> Option<Station> {
 
 /// Notes what looks wrong in the pairings without a fault of a month from which faults were taken out.
 fn note_sound(found: &mut Findings, drawer: &Drawer, problem: &Problem) -> Result<(), Memory> {
-    let base = known_base(drawer, problem);
     for pairing in problem.base.pairings.as_slice() {
         if !drawer.is_spoilt(pairing.name.bytes()) {
+            let base = known_base(drawer, problem);
             note_pairing(found, &drawer.texts, pairing, base)?;
         }
     }
