@@ -4,7 +4,7 @@ use shelf::{FolderShelf, Shelf, ShelfFault};
 use std::os::unix::fs::symlink;
 use std::test::Fail;
 
-// A test begins in an empty folder.
+// All tests run in one folder, which is empty at first: each has names of its own.
 #[test]
 fn keeps_what_was_written(rt: HostRuntime) -> Result<(), Fail> {
     let alloc = rt.alloc();
@@ -24,14 +24,14 @@ fn keeps_what_was_written(rt: HostRuntime) -> Result<(), Fail> {
 fn leaves_what_lies_beside(rt: HostRuntime) -> Result<(), Fail> {
     let alloc = rt.alloc();
     let mut shelf = FolderShelf::new(&rt, String::new(alloc));
-    shelf.write(alloc, "a.new", b"mine")?;
-    symlink(&rt, "nowhere", "a.new1")?;
-    shelf.write(alloc, "a", b"1")?;
-    shelf.write(alloc, "a", b"2")?;
-    assert!(rt; shelf.read(alloc, "a", 9)?.as_slice() == b"2".as_slice());
-    assert!(rt; shelf.read(alloc, "a.new", 9)?.as_slice() == b"mine".as_slice());
+    shelf.write(alloc, "b.new", b"mine")?;
+    symlink(&rt, "nowhere", "b.new1")?;
+    shelf.write(alloc, "b", b"1")?;
+    shelf.write(alloc, "b", b"2")?;
+    assert!(rt; shelf.read(alloc, "b", 9)?.as_slice() == b"2".as_slice());
+    assert!(rt; shelf.read(alloc, "b.new", 9)?.as_slice() == b"mine".as_slice());
     assert!(rt; shelf.read(alloc, "nowhere", 9).err() == Some(ShelfFault::Missing));
-    assert!(rt; shelf.read(alloc, "a.new2", 9).err() == Some(ShelfFault::Missing));
+    assert!(rt; shelf.read(alloc, "b.new2", 9).err() == Some(ShelfFault::Missing));
     Ok(())
 }
 
@@ -39,12 +39,12 @@ fn leaves_what_lies_beside(rt: HostRuntime) -> Result<(), Fail> {
 fn writes_in_the_place_of_a_link(rt: HostRuntime) -> Result<(), Fail> {
     let alloc = rt.alloc();
     let mut shelf = FolderShelf::new(&rt, String::new(alloc));
-    shelf.write(alloc, "b", b"kept")?;
-    symlink(&rt, "b", "a")?;
-    assert!(rt; shelf.read(alloc, "a", 9)?.as_slice() == b"kept".as_slice());
-    shelf.write(alloc, "a", b"1")?;
-    assert!(rt; shelf.read(alloc, "a", 9)?.as_slice() == b"1".as_slice());
-    assert!(rt; shelf.read(alloc, "b", 9)?.as_slice() == b"kept".as_slice());
+    shelf.write(alloc, "d", b"kept")?;
+    symlink(&rt, "d", "c")?;
+    assert!(rt; shelf.read(alloc, "c", 9)?.as_slice() == b"kept".as_slice());
+    shelf.write(alloc, "c", b"1")?;
+    assert!(rt; shelf.read(alloc, "c", 9)?.as_slice() == b"1".as_slice());
+    assert!(rt; shelf.read(alloc, "d", 9)?.as_slice() == b"kept".as_slice());
     Ok(())
 }
 
@@ -52,9 +52,9 @@ fn writes_in_the_place_of_a_link(rt: HostRuntime) -> Result<(), Fail> {
 fn reads_no_device(rt: HostRuntime) -> Result<(), Fail> {
     let alloc = rt.alloc();
     let mut shelf = FolderShelf::new(&rt, String::new(alloc));
-    symlink(&rt, "/dev/zero", "a")?;
-    assert!(rt; shelf.read(alloc, "a", 9).err() == Some(ShelfFault::ReadFailed));
-    shelf.write(alloc, "a", b"1")?;
-    assert!(rt; shelf.read(alloc, "a", 9)?.as_slice() == b"1".as_slice());
+    symlink(&rt, "/dev/zero", "e")?;
+    assert!(rt; shelf.read(alloc, "e", 9).err() == Some(ShelfFault::ReadFailed));
+    shelf.write(alloc, "e", b"1")?;
+    assert!(rt; shelf.read(alloc, "e", 9)?.as_slice() == b"1".as_slice());
     Ok(())
 }

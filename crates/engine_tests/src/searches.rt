@@ -40,7 +40,7 @@ struct Ended {
     entries: u32,
 }
 
-fn ended(found: &Finding, entries: u32) -> Ended {
+fn end_of(found: &Finding, entries: u32) -> Ended {
     let (how, items, splits) = match found {
         Finding::Found(_roster) => ("found", 0, 0),
         Finding::Refuted(proof) => ("refuted", proof.len(), splits_of(proof)),
@@ -61,7 +61,7 @@ fn searched(rt: &impl Abort, alloc: Global, problem: &Problem, floors: &[u32], c
     let mut closer: Rounds<PlainGuide> = Rounds::new(alloc, problem, 400).expect(rt, "memory");
     let mut ledger = Ledger::new(alloc, cap, 400).expect(rt, "memory");
     let found = search(alloc, problem, &mut closer, &goal, None, &mut ledger).expect(rt, "memory");
-    ended(&found, ledger.len())
+    end_of(&found, ledger.len())
 }
 
 /// The month that a head names.

@@ -1,5 +1,5 @@
 -- Lines of one pairing of the month, and of none, have pairings of the month alone.
-use Rattle.std.proofs.Common.{◌≡◌, ℕ, ◌<◌, List, [], ◌∷◌, ◌++◌, Option, None, Some, sym, subst, ◌∙◌, arith, absurd, slice_index_or}
+use Rattle.std.proofs.Common.{◌≡◌, ℕ, ◌<◌, List, [], ◌∷◌, ◌++◌, Option, None, Some, sym, subst, ◌∙◌, arith, slice_index_or}
 use Rattle.std.specs.Prelude.{All, IfSome}
 
 all_none : (n : ℕ) → All (λ (q : ℕ). q < n) []

@@ -150,21 +150,21 @@ fn reads_and_prints_reasons(rt: HostRuntime) {
 }
 
 /// Says what is the first fault of a text of reasons.
-fn assert_reason_fault(rt: &impl Abort, alloc: Global, problem: &Problem, text: &[u8], due: &str) {
+fn assert_reason_fault(rt: &impl Abort, alloc: Global, problem: &Problem, row: &str) {
+    let (text, due) = sides(rt, row);
+    let text = bytes_of(alloc, text);
     assert!(rt; text.len() <= 100);
-    let fault = read_reasons(alloc, text, problem)
+    let fault = read_reasons(alloc, &text, problem)
         .err()
         .expect(rt, "it has a fault");
     let found = format!(in alloc; "{fault}").expect(rt, "memory");
-    assert!(rt; found.as_str() == due, "{found}");
+    assert!(rt; found.as_str() == due, "{row}");
 }
 
 #[test]
 fn says_the_first_fault_of_reasons(rt: HostRuntime) {
-    let alloc = rt.alloc();
-    let problem = smallest(&rt, alloc);
+    let problem = smallest(&rt, rt.alloc());
     for row in REASON_FAULTS.lines() {
-        let (text, due) = sides(&rt, row);
-        assert_reason_fault(&rt, alloc, &problem, &bytes_of(alloc, text), due);
+        assert_reason_fault(&rt, rt.alloc(), &problem, row);
     }
 }
