@@ -1,9 +1,0 @@
-use denote.Text.{Utf8}
-use denote.Shadow.{shadow}
-use Rattle.engine_tests.proofs.hostile.files_are_cut.Given as goal
-
-abbrev pub invariant-loop-row : goal.invariant-loop-row
-invariant-loop-row g l =
-    (goal.iterator-loop-row g).can_next l.row-iterator
-    × (goal.iterator-loop-row g).is_finite l.row-iterator
-    × shadow (Utf8 l.name)
