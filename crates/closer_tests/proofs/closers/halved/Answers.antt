@@ -1,5 +1,5 @@
-use Rattle.line_tests.proofs.Months.{bids_of_two}
-use Rattle.line_tests.proofs.closers.halved.Goals as goal
+use Rattle.june_months.proofs.Held.{bids_of_two}
+use Rattle.closer_tests.proofs.closers.halved.Goals as goal
 
 pub month-requires-clause-each_bid : goal.month-requires-clause-each_bid
 month-requires-clause-each_bid c = λ h long.

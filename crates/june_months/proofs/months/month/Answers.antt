@@ -1,4 +1,4 @@
-use Rattle.line_tests.proofs.june.month.Goals as goal
+use Rattle.june_months.proofs.months.month.Goals as goal
 
 pub invariant_of-result : goal.invariant_of-result
 invariant_of-result c = record {

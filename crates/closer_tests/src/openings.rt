@@ -2,9 +2,9 @@
 ghost use Rattle.std.specs.Prelude.{◌≡◌, ◌≤◌, IfOk};
 ghost use Rattle.weight_certificates.specs.Setup.{IsMadeFor};
 
-use crate::june::{one, shared};
 use branch_log::FreshCloser;
 use duty_calendar::Memory;
+use june_months::{one, shared};
 use open_time::{OpenFault, Opened, fewest};
 use plain_guide::PlainGuide;
 use roster_model::{Item, Problem};

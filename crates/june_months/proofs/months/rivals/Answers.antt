@@ -3,8 +3,8 @@ use Rattle.std.proofs.lemmas.Result.{IfOk-weaker}
 use Rattle.duty_calendar.specs.declared.horizon.Horizon.{Horizon}
 use Rattle.duty_calendar.specs.declared.member.Member.{Member}
 use Rattle.duty_calendar.specs.Checks.{AreMembers}
-use Rattle.line_tests.proofs.Months.{more_members, other_names}
-use Rattle.line_tests.proofs.june.rivals.Goals as goal
+use Rattle.june_months.proofs.Held.{more_members, other_names}
+use Rattle.june_months.proofs.months.rivals.Goals as goal
 
 pub returns-clause-form : goal.returns-clause-form
 returns-clause-form c =

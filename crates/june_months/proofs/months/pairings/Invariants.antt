@@ -2,7 +2,7 @@ use Rattle.std.proofs.Common.{◌≡◌, ◌≤◌, length}
 use Rattle.duty_calendar.specs.declared.horizon.Horizon.{Horizon}
 use Rattle.duty_calendar.specs.Calendar.{month_days}
 use Rattle.duty_calendar.specs.Checks.{ArePairings}
-use Rattle.line_tests.proofs.june.pairings_of.Given as goal
+use Rattle.june_months.proofs.months.pairings.Given as goal
 
 abbrev pub invariant-loop-number : goal.invariant-loop-number
 invariant-loop-number l = record {

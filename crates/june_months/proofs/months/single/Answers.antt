@@ -3,8 +3,8 @@ use Rattle.std.proofs.lemmas.Result.{IfOk-weaker}
 use Rattle.duty_calendar.specs.declared.horizon.Horizon.{Horizon}
 use Rattle.duty_calendar.specs.declared.member.Member.{Member}
 use Rattle.duty_calendar.specs.Checks.{AreMembers}
-use Rattle.line_tests.proofs.Months.{one_member, named}
-use Rattle.line_tests.proofs.june.single.Goals as goal
+use Rattle.june_months.proofs.Held.{one_member, named}
+use Rattle.june_months.proofs.months.single.Goals as goal
 
 pub returns-clause-form : goal.returns-clause-form
 returns-clause-form c =

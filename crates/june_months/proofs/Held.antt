@@ -9,10 +9,6 @@ use Rattle.duty_calendar.specs.declared.horizon.Horizon.{Horizon}
 use Rattle.duty_calendar.specs.declared.member.Member.{Member}
 use Rattle.duty_calendar.specs.declared.pairing.Pairing.{Pairing}
 use Rattle.roster_model.specs.declared.bid.Bid.{Bid}
-use Rattle.roster_model.specs.declared.node.Decision.{Decision}
-use Rattle.roster_model.specs.declared.problem.Problem.{Problem}
-use Rattle.roster_model.specs.Decided.{HasNoPairTwice}
-use Rattle.roster_model.specs.Goals.{IsNode}
 use Rattle.roster_model.specs.Valid.{IsBid}
 use Rattle.duty_calendar.specs.Checks.{AreMembers, ArePairings, IsMember, IsPairing}
 
@@ -60,15 +56,6 @@ other_names list m first second = All-weaker (λ (n : Member). n.name ≡ 77 ∷
 
 pub named : (list : List Member) (m : Member) → list ≡ m ∷ [] → m.name ≡ 77 ∷ 49 ∷ [] → All (λ n. n.name ≡ 77 ∷ 49 ∷ []) list
 named list m is e = subst (All (λ (n : Member). n.name ≡ 77 ∷ 49 ∷ [])) (sym is) (All-from_recursion (λ (n : Member). n.name ≡ 77 ∷ 49 ∷ []) (m ∷ []) (e, tt))
-
--- a node of one decision
-pub one_decision : (problem : Problem) (node : List Decision) (d : Decision) → node ≡ d ∷ [] → d.member < length problem.base.members → d.pairing < length problem.base.pairings
-    → HasNoPairTwice (d ∷ []) → IsNode problem node
-one_decision problem node d is m p once = subst (IsNode problem) (sym is) (record {
-  members = All-from_recursion (λ (d : Decision). d.member < length problem.base.members) (d ∷ []) (m, tt);
-  pairings = All-from_recursion (λ (d : Decision). d.pairing < length problem.base.pairings) (d ∷ []) (p, tt);
-  once = once;
-})
 
 -- the bids of one member
 pub bids_of_one : (h : Horizon) (count : ℕ) (list : List Bid) (bids : List (List Bid)) → bids ≡ list ∷ [] → All (IsBid h count) list → All (All (IsBid h count)) bids

@@ -5,8 +5,8 @@ use Rattle.duty_calendar.specs.declared.horizon.Horizon.{Horizon}
 use Rattle.duty_calendar.specs.declared.pairing.Pairing.{Pairing}
 use Rattle.duty_calendar.specs.Calendar.{month_days}
 use Rattle.duty_calendar.specs.Checks.{ArePairings}
-use Rattle.line_tests.proofs.Months.{more_pairings}
-use Rattle.line_tests.proofs.june.with_pairing.Goals as goal
+use Rattle.june_months.proofs.Held.{more_pairings}
+use Rattle.june_months.proofs.months.with_pairing.Goals as goal
 
 pub returns-clause-form : goal.returns-clause-form
 returns-clause-form c =

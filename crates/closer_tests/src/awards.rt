@@ -3,10 +3,10 @@
 ghost use Rattle.std.specs.Prelude.{◌≡◌, ◌≤◌, ◌∷◌, [], IfOk};
 ghost use Rattle.roster_model.specs.declared.bid.Wish.TheVariants.{CreditAbove, Fly};
 
-use crate::june::{
+use duty_calendar::{List, Memory};
+use june_months::{
     first_pairing, month, one, pair, pairings, rivals, shared, single, smallest, with,
 };
-use duty_calendar::{List, Memory};
 use month_award::{MonthAward, award_month};
 use plain_guide::PlainGuide;
 use roster_model::{Bid, BidRef, Cause, Certificate, Denial, Item, Problem, Reasons, Wish};

@@ -5,11 +5,12 @@ ghost use Rattle.duty_calendar.specs.declared.horizon.Horizon.{Horizon as Month}
 ghost use Rattle.duty_calendar.specs.Checks.{ArePairings, IsPairing};
 ghost use Rattle.roster_model.specs.Valid.{IsBid};
 
-use crate::june::{
-    contest, month, one, pair, pairings, rivals, shared, shift, single, two_floors, with_pairing,
-};
 use branch_log::{Closer, FreshCloser, Verdict};
 use duty_calendar::{List, Memory, Name, Pairing, Station};
+use june_months::{
+    contest, month, no_pairing, one, pair, pairings, rivals, shared, shift, single, two_floors,
+    with_pairing,
+};
 use plain_guide::PlainGuide;
 use roster_model::{Atom, Bid, Goal, Item, Node, Problem, Test, Wish};
 use std::alloc::Global;
@@ -39,12 +40,11 @@ fn trip(alloc: Global, name: &[u8], day: u32, stop: [u8; 3]) -> Result<Pairing, 
 }
 
 /// Four trips, with nights in Chicago and in Denver by turns.
-#[tactic(auto, using(crate::proofs::Months::no_pairings))]
 fn trips(alloc: Global) -> Result<List<Pairing>, Memory>
     ensures count { IfOk result (λ list. length list ≡ 4) }
     ensures form { IfOk result (λ list. (h : Month) → 30 ≤ month_days h → ArePairings h list) }
 {
-    let first = with_pairing(List::new(alloc), trip(alloc, b"P1", 3, *b"ORD")?)?;
+    let first = with_pairing(no_pairing(alloc), trip(alloc, b"P1", 3, *b"ORD")?)?;
     let second = with_pairing(first, trip(alloc, b"P2", 6, *b"DEN")?)?;
     let third = with_pairing(second, trip(alloc, b"P3", 13, *b"ORD")?)?;
     with_pairing(third, trip(alloc, b"P4", 16, *b"DEN")?)

@@ -15,7 +15,7 @@ use roster_model::{Bid, Line, Problem, Wish};
 use std::alloc::Global;
 
 /// The list with one element more.
-pub(crate) fn with<T: Drop>(mut list: List<T>, item: T) -> Result<List<T>, Memory>
+pub fn with<T: Drop>(mut list: List<T>, item: T) -> Result<List<T>, Memory>
     ensures added { IfOk result (λ longer. longer ≡ list ++ item ∷ []) }
 {
     match list.push(item) {
@@ -25,21 +25,21 @@ pub(crate) fn with<T: Drop>(mut list: List<T>, item: T) -> Result<List<T>, Memor
 }
 
 /// The list of one element.
-pub(crate) fn one<T: Drop>(alloc: Global, item: T) -> Result<List<T>, Memory>
+pub fn one<T: Drop>(alloc: Global, item: T) -> Result<List<T>, Memory>
     ensures only { IfOk result (λ list. list ≡ item ∷ []) }
 {
     with(List::new(alloc), item)
 }
 
 /// The list of two elements.
-pub(crate) fn pair<T: Drop>(alloc: Global, first: T, second: T) -> Result<List<T>, Memory>
+pub fn pair<T: Drop>(alloc: Global, first: T, second: T) -> Result<List<T>, Memory>
     ensures both { IfOk result (λ list. list ≡ first ∷ second ∷ []) }
 {
     with(one(alloc, first)?, second)
 }
 
 /// A duty with one leg from a station to another, and a night at a third, if there is one.
-pub(crate) fn shift(
+pub fn shift(
     alloc: Global,
     report: u32,
     from: Station,
@@ -115,8 +115,17 @@ fn is_new(pairings: &[Pairing], name: &Name) -> bool
     pairings.iter().all(|pairing| pairing.name != *name)
 }
 
+/// No pairing.
+#[tactic(auto, using(crate::proofs::Held::no_pairings))]
+pub fn no_pairing(alloc: Global) -> List<Pairing>
+    ensures none { result ≡ [] }
+    ensures form { (h : Month) → ArePairings h result }
+{
+    List::new(alloc)
+}
+
 /// The list with one pairing more, which has a name of its own.
-pub(crate) fn with_pairing(list: List<Pairing>, pairing: Pairing) -> Result<List<Pairing>, Memory>
+pub fn with_pairing(list: List<Pairing>, pairing: Pairing) -> Result<List<Pairing>, Memory>
     requires few { length list < 600 }
     requires list { (h : Month) → 30 ≤ month_days h → ArePairings h list }
     requires pairing { (h : Month) → 30 ≤ month_days h → IsPairing h pairing }
@@ -130,7 +139,7 @@ pub(crate) fn with_pairing(list: List<Pairing>, pairing: Pairing) -> Result<List
 }
 
 /// So many pairings, one day after the other, and again from the first day on.
-pub(crate) fn pairings(alloc: Global, count: u32, need: u32) -> Result<List<Pairing>, Memory>
+pub fn pairings(alloc: Global, count: u32, need: u32) -> Result<List<Pairing>, Memory>
     requires few { count ≤ 600 }
     requires some_need { 1 ≤ need }
     requires few_need { need ≤ 9 }
@@ -146,7 +155,7 @@ pub(crate) fn pairings(alloc: Global, count: u32, need: u32) -> Result<List<Pair
 }
 
 /// Pairings of these credits, at most 200 hours, one day after the other.
-pub(crate) fn pairings_of(alloc: Global, credits: &[u32]) -> Result<List<Pairing>, Memory>
+pub fn pairings_of(alloc: Global, credits: &[u32]) -> Result<List<Pairing>, Memory>
     requires few { length credits.now ≤ 30 }
     ensures count { IfOk result (λ list. length list ≡ length credits.now) }
     ensures form { IfOk result (λ list. (h : Month) → 30 ≤ month_days h → ArePairings h list) }
@@ -160,7 +169,7 @@ pub(crate) fn pairings_of(alloc: Global, credits: &[u32]) -> Result<List<Pairing
 }
 
 /// One pairing of the tenth day.
-pub(crate) fn tenth(alloc: Global, credit: u32) -> Result<List<Pairing>, Memory>
+pub fn tenth(alloc: Global, credit: u32) -> Result<List<Pairing>, Memory>
     requires few_credit { credit ≤ 12000 }
     ensures count { IfOk result (λ list. length list ≡ 1) }
     ensures form { IfOk result (λ list. (h : Month) → 30 ≤ month_days h → ArePairings h list) }
@@ -210,7 +219,7 @@ fn member(alloc: Global, name: &[u8], low: u32, high: u32) -> Result<Member, Mem
 }
 
 /// One member.
-pub(crate) fn single(alloc: Global, low: u32, high: u32) -> Result<List<Member>, Memory>
+pub fn single(alloc: Global, low: u32, high: u32) -> Result<List<Member>, Memory>
     requires window { low ≤ high }
     requires few_credit { high ≤ 12000 }
     ensures count { IfOk result (λ list. length list ≡ 1) }
@@ -221,7 +230,7 @@ pub(crate) fn single(alloc: Global, low: u32, high: u32) -> Result<List<Member>,
 }
 
 /// Two members.
-pub(crate) fn rivals(alloc: Global, low: u32, high: u32) -> Result<List<Member>, Memory>
+pub fn rivals(alloc: Global, low: u32, high: u32) -> Result<List<Member>, Memory>
     requires window { low ≤ high }
     requires few_credit { high ≤ 12000 }
     ensures count { IfOk result (λ list. length list ≡ 2) }
@@ -232,7 +241,7 @@ pub(crate) fn rivals(alloc: Global, low: u32, high: u32) -> Result<List<Member>,
 }
 
 /// The bid to fly the first pairing.
-pub(crate) fn first_pairing(alloc: Global) -> Result<List<Bid>, Memory>
+pub fn first_pairing(alloc: Global) -> Result<List<Bid>, Memory>
     ensures bid { IfOk result (λ list. list ≡ record { weight = 10; wish = Fly 0 } ∷ []) }
 {
     let bid = Bid {
@@ -243,7 +252,7 @@ pub(crate) fn first_pairing(alloc: Global) -> Result<List<Bid>, Memory>
 }
 
 /// The line of the first pairing.
-pub(crate) fn first_line(alloc: Global) -> Result<Line, Memory>
+pub fn first_line(alloc: Global) -> Result<Line, Memory>
     ensures line { IfOk result (λ line. line ≡ 0 ∷ []) }
 {
     match Line::new(one(alloc, 0)?) {
@@ -253,14 +262,14 @@ pub(crate) fn first_line(alloc: Global) -> Result<Line, Memory>
 }
 
 /// The floors of a senior who is to reach 10 and of a junior who is to reach 1.
-pub(crate) fn two_floors(alloc: Global) -> Result<List<u32>, Memory>
+pub fn two_floors(alloc: Global) -> Result<List<u32>, Memory>
     ensures count { IfOk result (λ floors. length floors ≡ 2) }
 {
     pair(alloc, 10, 1)
 }
 
 /// The month.
-pub(crate) fn month(
+pub fn month(
     pairings: List<Pairing>,
     members: List<Member>,
     bids: List<List<Bid>>,
@@ -283,7 +292,7 @@ pub(crate) fn month(
 }
 
 /// The month of one member who wants to fly the one pairing.
-pub(crate) fn smallest(alloc: Global) -> Result<Problem, Memory>
+pub fn smallest(alloc: Global) -> Result<Problem, Memory>
     ensures members { IfOk result (λ p. length p.base.members ≡ 1) }
     ensures pairings { IfOk result (λ p. length p.base.pairings ≡ 1) }
 {
@@ -292,7 +301,7 @@ pub(crate) fn smallest(alloc: Global) -> Result<Problem, Memory>
 }
 
 /// The month of two members who both want to fly the one pairing.
-pub(crate) fn contest(alloc: Global) -> Result<Problem, Memory>
+pub fn contest(alloc: Global) -> Result<Problem, Memory>
     ensures members { IfOk result (λ p. length p.base.members ≡ 2) }
     ensures pairings { IfOk result (λ p. length p.base.pairings ≡ 1) }
 {
@@ -304,13 +313,7 @@ pub(crate) fn contest(alloc: Global) -> Result<Problem, Memory>
 
 /// The month of two members without bids, whose credit is from `low` to `high`, and of so many
 /// pairings of such need.
-pub(crate) fn shared(
-    alloc: Global,
-    count: u32,
-    need: u32,
-    low: u32,
-    high: u32,
-) -> Result<Problem, Memory>
+pub fn shared(alloc: Global, count: u32, need: u32, low: u32, high: u32) -> Result<Problem, Memory>
     requires few { count ≤ 600 }
     requires some_need { 1 ≤ need }
     requires few_need { need ≤ 9 }
