@@ -33,7 +33,7 @@ fn count_bids(
         Ok(lists) => {
             let mut count: u32 = 0;
             for list in lists.as_slice() {
-                count = count.saturating_add(list.len() as u32);
+                count = count.saturating_add(u32::try_from(list.len()).unwrap_or(u32::MAX));
             }
             Some(Ok(count))
         }

@@ -1,7 +1,7 @@
 //! The trips of the packet. What the tests of bids look at stands in each row as data, for the script.
 
 use duty_calendar::{Base, Duty, Horizon, Leg, Memory, Pairing, Station, Weekday};
-use month_page::{days_of, put_cells, put_trips_head};
+use month_page::{counted, days_of, put_cells, put_trips_head};
 use page_parts::Html;
 use roster_model::pairing_span;
 
@@ -150,7 +150,7 @@ pub fn put_trips(html: &mut Html, base: &Base) -> Result<(), Memory> {
     put_trips_head(html)?;
     html.markup(b"<th scope=\"col\" class=\"k\">Layovers</th><th scope=\"col\" class=\"k r\" title=\"duties with a minute from 02:00 to 05:59\">Nights</th><th scope=\"col\" class=\"k r\">Pilots</th></tr></thead>\n<tbody id=\"list\">\n")?;
     for (number, pairing) in base.pairings.as_slice().iter().enumerate() {
-        put_trip(html, &base.rules.horizon, number as u32, pairing)?;
+        put_trip(html, &base.rules.horizon, counted(number), pairing)?;
     }
     html.markup(b"</tbody></table></div>\n")
 }

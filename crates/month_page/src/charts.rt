@@ -1,5 +1,6 @@
 //! The charts of the page: how much of their bids pilots got, where their credit stands, and why bids were denied.
 
+use crate::counting::counted;
 use crate::pilot::Pilot;
 use duty_calendar::Memory;
 use page_parts::{Bar, Html, put_bars, put_dots};
@@ -78,7 +79,7 @@ pub fn count_denied(pilots: &[Pilot], ground: Ground) -> u32 {
 pub fn count_bids(pilots: &[Pilot]) -> u32 {
     let mut count: u32 = 0;
     for pilot in pilots {
-        count = count.saturating_add(pilot.bids.len() as u32);
+        count = count.saturating_add(counted(pilot.bids.len()));
     }
     count
 }

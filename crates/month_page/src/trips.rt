@@ -1,5 +1,6 @@
 //! The trips of the month: who flies them, and which are open.
 
+use crate::counting::counted;
 use crate::pilot::Pilot;
 use crate::route::put_route;
 use duty_calendar::{Base, Horizon, Interval, Memory, Pairing};
@@ -113,7 +114,7 @@ pub fn put_trips(html: &mut Html, base: &Base, pilots: &[Pilot]) -> Result<(), M
     put_trips_head(html)?;
     html.markup(b"<th scope=\"col\" class=\"k r\">Pilots</th><th scope=\"col\" class=\"k\">Flown by</th></tr></thead>\n<tbody>\n")?;
     for (number, pairing) in base.pairings.as_slice().iter().enumerate() {
-        put_trip(html, &base.rules.horizon, pilots, number as u32, pairing)?;
+        put_trip(html, &base.rules.horizon, pilots, counted(number), pairing)?;
     }
     html.markup(b"</tbody></table></div>\n")
 }
@@ -121,7 +122,7 @@ pub fn put_trips(html: &mut Html, base: &Base, pilots: &[Pilot]) -> Result<(), M
 /// Whether no pilot is wanting for any pairing.
 fn are_flown(base: &Base, pilots: &[Pilot]) -> bool {
     for (number, pairing) in base.pairings.as_slice().iter().enumerate() {
-        if lack_of(pilots, number as u32, pairing) > 0 {
+        if lack_of(pilots, counted(number), pairing) > 0 {
             return false;
         }
     }
@@ -145,7 +146,7 @@ fn put_open_trip(
 /// Appends the rows of open trips.
 fn put_open_trips(html: &mut Html, base: &Base, pilots: &[Pilot]) -> Result<(), Memory> {
     for (number, pairing) in base.pairings.as_slice().iter().enumerate() {
-        let lack = lack_of(pilots, number as u32, pairing);
+        let lack = lack_of(pilots, counted(number), pairing);
         if lack > 0 {
             put_open_trip(html, &base.rules.horizon, pairing, lack)?;
         }

@@ -3,7 +3,7 @@ ghost use Rattle.std.specs.Prelude.{◌≡◌, ◌<◌, All, length, true};
 
 use duty_calendar::{List, Memory};
 use line_legality::{Illegal, legal};
-use month_page::{Pilot, lack_of};
+use month_page::{Pilot, counted, lack_of};
 use roster_model::{Line, Problem};
 use std::alloc::Global;
 
@@ -103,7 +103,7 @@ pub fn open_trips(
 ) -> Result<Vec<OpenTrip>, Memory> {
     let mut found = Vec::new(alloc);
     for (number, pairing) in problem.base.pairings.as_slice().iter().enumerate() {
-        let pairing_number = number as u32;
+        let pairing_number = counted(number);
         let lack = lack_of(pilots, pairing_number, pairing);
         if lack > 0 {
             found.push(OpenTrip {
