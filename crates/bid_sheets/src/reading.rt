@@ -20,11 +20,7 @@ pub struct Read {
 }
 
 /// How many bids a text has, or its first fault. Nothing where it is too long to be read.
-fn count_bids(
-    alloc: Global,
-    problem: &Problem,
-    text: &[u8],
-) -> Option<Result<u32, BidFault>> {
+fn count_bids(alloc: Global, problem: &Problem, text: &[u8]) -> Option<Result<u32, BidFault>> {
     if text.len() > LONGEST {
         return None;
     }

@@ -35,5 +35,7 @@ pub fn put_help(prose: &mut Prose) -> Result<(), Memory> {
 
 /// Appends how the program is called.
 pub fn put_usage(prose: &mut Prose) -> Result<(), Memory> {
-    prose.say(b"usage: pbs-desk FOLDER explain [LINE] | lint | packet | collect DIR [--standing OLD] [--force] | page [MEMBER] | report | help\n")
+    prose.say(
+        b"usage: pbs-desk FOLDER explain [LINE] | lint | packet | collect DIR [--standing OLD] [--force] | page [MEMBER] | report | help\n",
+    )
 }

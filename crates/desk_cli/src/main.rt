@@ -81,7 +81,14 @@ fn collected<'a, R: Files + AllocGlobal>(
     match words.standing {
         Some(folder) => {
             let mut old = FolderShelf::new(rt, folder);
-            run_collect(rt.alloc(), shelf, &mut sheets, Some(&mut old), out, words.is_forced)
+            run_collect(
+                rt.alloc(),
+                shelf,
+                &mut sheets,
+                Some(&mut old),
+                out,
+                words.is_forced,
+            )
         }
         None => run_collect(rt.alloc(), shelf, &mut sheets, None, out, words.is_forced),
     }

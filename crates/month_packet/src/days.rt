@@ -44,7 +44,9 @@ fn put_day(html: &mut Html, base: &Base, day: u32) -> Result<(), Memory> {
 
 /// Appends the calendar.
 pub fn put_calendar(html: &mut Html, base: &Base) -> Result<(), Memory> {
-    html.markup(b"<h2 id=\"days\">Trips by the day of their report</h2>\n<ul class=\"calendar\">\n")?;
+    html.markup(
+        b"<h2 id=\"days\">Trips by the day of their report</h2>\n<ul class=\"calendar\">\n",
+    )?;
     for day in 0..base.rules.horizon.days() {
         put_day(html, base, FIRST_DAY + day)?;
     }

@@ -112,7 +112,8 @@ pub static SHEET: &[u8] = br##"<script>
 "##;
 
 /// The rules of the packet alone.
-pub static STYLE: &[u8] = br#".calendar{display:grid;grid-template-columns:repeat(auto-fill,minmax(min(9rem,45%),1fr));gap:.3rem;padding:0;list-style:none;font-size:.8rem}
+pub static STYLE: &[u8] =
+    br#".calendar{display:grid;grid-template-columns:repeat(auto-fill,minmax(min(9rem,45%),1fr));gap:.3rem;padding:0;list-style:none;font-size:.8rem}
 .calendar li{border:1px solid var(--rule);padding:.2rem .4rem;overflow-wrap:anywhere}
 .calendar .w{background:var(--shade)}
 tr.touched>*{background:var(--mark)}

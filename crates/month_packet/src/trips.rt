@@ -51,12 +51,7 @@ fn weekday_word(weekday: Weekday) -> &'static [u8] {
 }
 
 /// Appends the words of the days of the week from a day on, so many.
-fn put_weekdays(
-    html: &mut Html,
-    horizon: &Horizon,
-    first: u32,
-    count: u32,
-) -> Result<(), Memory> {
+fn put_weekdays(html: &mut Html, horizon: &Horizon, first: u32, count: u32) -> Result<(), Memory> {
     for day in 0..count.min(7) {
         let day = first.saturating_add(day).min(372 + horizon.days());
         html.markup(weekday_word(horizon.weekday(day)))?;
@@ -148,7 +143,9 @@ fn put_trip(
 pub fn put_trips(html: &mut Html, base: &Base) -> Result<(), Memory> {
     html.markup(b"<h2 id=\"trips\">Trips</h2>\n")?;
     put_trips_head(html)?;
-    html.markup(b"<th scope=\"col\" class=\"k\">Layovers</th><th scope=\"col\" class=\"k r\" title=\"duties with a minute from 02:00 to 05:59\">Nights</th><th scope=\"col\" class=\"k r\">Pilots</th></tr></thead>\n<tbody id=\"list\">\n")?;
+    html.markup(
+        b"<th scope=\"col\" class=\"k\">Layovers</th><th scope=\"col\" class=\"k r\" title=\"duties with a minute from 02:00 to 05:59\">Nights</th><th scope=\"col\" class=\"k r\">Pilots</th></tr></thead>\n<tbody id=\"list\">\n",
+    )?;
     for (number, pairing) in base.pairings.as_slice().iter().enumerate() {
         put_trip(html, &base.rules.horizon, counted(number), pairing)?;
     }

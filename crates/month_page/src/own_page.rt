@@ -64,7 +64,11 @@ fn put_own(html: &mut Html, problem: &Problem, pilot: &Pilot) -> Result<(), Memo
     put_document(html, &problem.base.rules)?;
     html.markup(b", ")?;
     html.text(pilot.name)?;
-    put_styles(html, &problem.base, b".many{columns:14rem;padding-left:1.2rem}\n")?;
+    put_styles(
+        html,
+        &problem.base,
+        b".many{columns:14rem;padding-left:1.2rem}\n",
+    )?;
     put_pilot_heading(html, &problem.base.rules, pilot)?;
     put_month(html, &problem.base.rules, pilot)?;
     html.markup(b"<h2>Bids</h2>\n<section>\n")?;
@@ -93,12 +97,7 @@ fn print_pilot(
 }
 
 /// A page with its foot.
-fn with_foot(
-    alloc: Global,
-    page: Html,
-    seen: &Seen,
-    built: &[u8],
-) -> Result<List<u8>, Memory> {
+fn with_foot(alloc: Global, page: Html, seen: &Seen, built: &[u8]) -> Result<List<u8>, Memory> {
     let mut html = page;
     put_foot(alloc, &mut html, &sums_of(alloc, seen)?, built)?;
     Ok(html.into_bytes())

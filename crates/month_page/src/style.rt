@@ -2,7 +2,8 @@
 
 /// The rules of strips and of the roster. `--t` is how many minutes the month has, `--n` how long the longest name is. What
 /// lies in a strip begins at `--a` and has `--w` minutes.
-pub static STYLE: &[u8] = br#".key{display:flex;flex-wrap:wrap;gap:.3rem 1.2rem;margin:.6rem 0;padding:0;list-style:none;font-size:.85rem}
+pub static STYLE: &[u8] =
+    br#".key{display:flex;flex-wrap:wrap;gap:.3rem 1.2rem;margin:.6rem 0;padding:0;list-style:none;font-size:.85rem}
 .key li{display:flex;align-items:center;gap:.4rem}
 .key .strip{width:2.4rem;height:1.4rem;background:none;--t:1}
 table.roster{table-layout:fixed;width:100%}

@@ -83,9 +83,15 @@ pub fn put_cells(html: &mut Html, horizon: &Horizon, pairing: &Pairing) -> Resul
 
 /// Appends the head of a table of trips, up to the columns that differ.
 pub fn put_trips_head(html: &mut Html) -> Result<(), Memory> {
-    html.markup(b"<div class=\"wide\"><table class=\"list sort\">\n<thead><tr><th scope=\"col\" class=\"k\">Trip</th>")?;
-    html.markup(b"<th scope=\"col\" class=\"k\">Route</th><th scope=\"col\" class=\"k\">Report</th>")?;
-    html.markup(b"<th scope=\"col\" class=\"k\">Release</th><th scope=\"col\" class=\"k r\">Days</th>")?;
+    html.markup(
+        b"<div class=\"wide\"><table class=\"list sort\">\n<thead><tr><th scope=\"col\" class=\"k\">Trip</th>",
+    )?;
+    html.markup(
+        b"<th scope=\"col\" class=\"k\">Route</th><th scope=\"col\" class=\"k\">Report</th>",
+    )?;
+    html.markup(
+        b"<th scope=\"col\" class=\"k\">Release</th><th scope=\"col\" class=\"k r\">Days</th>",
+    )?;
     html.markup(b"<th scope=\"col\" class=\"k r\">Credit</th>")
 }
 
@@ -112,7 +118,9 @@ fn put_trip(
 pub fn put_trips(html: &mut Html, base: &Base, pilots: &[Pilot]) -> Result<(), Memory> {
     html.markup(b"<h2 id=\"trips\">Trips</h2>\n")?;
     put_trips_head(html)?;
-    html.markup(b"<th scope=\"col\" class=\"k r\">Pilots</th><th scope=\"col\" class=\"k\">Flown by</th></tr></thead>\n<tbody>\n")?;
+    html.markup(
+        b"<th scope=\"col\" class=\"k r\">Pilots</th><th scope=\"col\" class=\"k\">Flown by</th></tr></thead>\n<tbody>\n",
+    )?;
     for (number, pairing) in base.pairings.as_slice().iter().enumerate() {
         put_trip(html, &base.rules.horizon, pilots, counted(number), pairing)?;
     }

@@ -16,12 +16,7 @@ pub struct OpenTrip {
 }
 
 /// Adds the numbers of a line on one side of a pairing: those below it, or those above.
-fn push_side(
-    list: &mut List<u32>,
-    line: &[u32],
-    pairing: u32,
-    below: bool,
-) -> Result<(), Memory> {
+fn push_side(list: &mut List<u32>, line: &[u32], pairing: u32, below: bool) -> Result<(), Memory> {
     for number in line {
         if *number != pairing && (*number < pairing) == below {
             if list.push(*number).is_err() {
