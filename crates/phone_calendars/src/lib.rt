@@ -1,0 +1,15 @@
+//! Calendars of pilots for phones, by RFC 5545: each trip, each fixed event and each day off, with the changes since earlier
+//! calendars.
+#![tactic(auto)]
+
+mod days_off;
+mod earlier;
+mod event;
+mod fixed_events;
+mod head;
+mod printing;
+mod sheet;
+mod telling;
+mod trips;
+
+pub use sheet::{Pilot, Sheet, sheet_of};
