@@ -9,7 +9,11 @@ mod fixed_events;
 mod head;
 mod printing;
 mod sheet;
+mod sources;
 mod telling;
 mod trips;
+mod writing;
 
 pub use sheet::{Pilot, Sheet, sheet_of};
+pub use sources::{file_of, folder_text, roster_text};
+pub use writing::{Written, write_calendar};
