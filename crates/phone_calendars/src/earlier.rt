@@ -1,7 +1,7 @@
 //! Events of earlier calendars.
 
+use crate::content::put_line;
 use crate::event::Owner;
-use crew_calendar::put_line;
 use duty_calendar::{List, Memory};
 use field_text::{put_bytes, put_number};
 use std::alloc::Global;

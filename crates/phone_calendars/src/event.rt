@@ -1,7 +1,7 @@
 //! Events of a calendar.
 
-use crew_calendar::uid_of;
 use duty_calendar::{Horizon, List, Memory, Station};
+use field_text::{put_bytes, put_number};
 use file_places::Prose;
 use std::alloc::Global;
 
@@ -52,7 +52,17 @@ impl Letter {
 impl<'a> Owner<'a> {
     /// The name of an event.
     pub fn uid(&self, alloc: Global, letter: Letter, own: &[u8]) -> Result<List<u8>, Memory> {
-        uid_of(alloc, self.horizon, letter.byte(), own, self.name)
+        let month = u32::from(self.horizon.month());
+        let year = u32::try_from(self.horizon.year()).unwrap_or(0);
+        let mut uid = List::new(alloc);
+        put_bytes(&mut uid, &[letter.byte(), b'.'])?;
+        put_bytes(&mut uid, own)?;
+        put_bytes(&mut uid, b".")?;
+        put_bytes(&mut uid, self.name)?;
+        put_bytes(&mut uid, b".")?;
+        put_number(&mut uid, year.saturating_mul(100).saturating_add(month))?;
+        put_bytes(&mut uid, b"@pbs")?;
+        Ok(uid)
     }
 
     /// Whether a name is that of an event of the owner's month.

@@ -2,6 +2,7 @@
 //! calendars.
 #![tactic(auto)]
 
+mod content;
 mod days_off;
 mod earlier;
 mod event;

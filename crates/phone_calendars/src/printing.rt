@@ -1,7 +1,7 @@
 //! The content lines of an event.
 
+use crate::content::{put_line, put_stamp, put_value};
 use crate::event::{PhoneEvent, When};
-use crew_calendar::{moment_at, put_escaped, put_line, put_moment};
 use duty_calendar::{Horizon, List, Memory, Station};
 use field_text::{put_bytes, put_number};
 use std::alloc::Global;
@@ -26,7 +26,7 @@ pub fn put_text(
 ) -> Result<(), Memory> {
     let mut line = List::new(alloc);
     put_bytes(&mut line, head)?;
-    put_escaped(&mut line, text)?;
+    put_value(&mut line, text)?;
     put_line(out, line.as_slice())
 }
 
@@ -53,7 +53,7 @@ fn put_minute(
 ) -> Result<(), Memory> {
     let mut line = List::new(alloc);
     put_bytes(&mut line, head)?;
-    put_moment(&mut line, &moment_at(horizon, minute.min(horizon.end())))?;
+    put_stamp(alloc, &mut line, horizon, minute)?;
     put_line(out, line.as_slice())
 }
 

@@ -1,5 +1,6 @@
 //! The calendar of a pilot.
 
+use crate::content::put_line;
 use crate::days_off::{day_event, is_free};
 use crate::earlier::{Earlier, add_earlier, greatest, latest, put_cancelled};
 use crate::event::{Owner, PhoneEvent};
@@ -7,7 +8,6 @@ use crate::fixed_events::fixed_event;
 use crate::head::put_head;
 use crate::printing::put_event;
 use crate::trips::trip_event;
-use crew_calendar::put_line;
 use duty_calendar::{Event, Interval, List, Member, Memory, Pairing};
 use roster_model::{Line, Problem, pairing_span};
 use std::alloc::Global;
