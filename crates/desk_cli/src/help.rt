@@ -4,17 +4,24 @@ use duty_calendar::Memory;
 use file_places::Prose;
 
 /// What each command is for.
-static HELP: [&[u8]; 11] = [
-    b"pbs-desk FOLDER COMMAND: what pbs does not say. It writes no file that pbs reads.\n",
+static HELP: [&[u8]; 18] = [
+    b"pbs-desk FOLDER COMMAND: what pbs does not say, and pages. It writes no file that pbs reads, but bids.txt\n",
+    b"by collect.\n",
     b"\n",
     b"  explain LINE   says a line that pbs printed as a sentence, with the text that it points to and a mark\n",
     b"                 below it; without LINE it reads the lines from standard input: pbs FOLDER check |\n",
     b"                 pbs-desk FOLDER explain\n",
     b"  lint           says all faults of the eight files, not the first alone, and what is legal but looks\n",
     b"                 wrong; it ends with 0 where there is nothing to say, 1 with warnings, 2 with faults\n",
-    b"  page           writes month.html, the roster and its bids as a page for a browser, as pbs-page does\n",
+    b"  packet         writes packet.html: the trips to bid for, and a sheet that writes bids; it wants no bids.txt\n",
+    b"  collect DIR [--standing OLD] [--force]   makes bids.txt of the files NAME.txt in DIR; of who sent none\n",
+    b"                 the bids in the folder OLD stand; it writes over a bids.txt only with --force\n",
+    b"  page           writes month.html: the roster, bids with reasons, trips, charts, as pbs-page does\n",
+    b"  page MEMBER    writes pilot-MEMBER.html: the line and the bids of one pilot, and what could be traded\n",
+    b"  report         writes report.html and report.csv: what a planner asks of an award\n",
     b"  help           says this\n",
     b"\n",
+    b"Pages open in any browser, on a phone too, and ask for no network.\n",
     b"What each line of pbs says stands in docs/CODES.md too, what to do next in docs/GUIDE.md.\n",
 ];
 
@@ -28,5 +35,5 @@ pub fn put_help(prose: &mut Prose) -> Result<(), Memory> {
 
 /// Appends how the program is called.
 pub fn put_usage(prose: &mut Prose) -> Result<(), Memory> {
-    prose.say(b"usage: pbs-desk FOLDER explain [LINE] | lint | page | help\n")
+    prose.say(b"usage: pbs-desk FOLDER explain [LINE] | lint | packet | collect DIR [--standing OLD] [--force] | page [MEMBER] | report | help\n")
 }

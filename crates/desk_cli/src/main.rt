@@ -1,16 +1,29 @@
 //! The program `pbs-desk FOLDER WORDS`: the files of a folder, standard input and standard output.
 #![tactic(auto)]
 
+mod collect_command;
+mod collect_words;
+mod explain_command;
 mod help;
+mod lint_command;
+mod packet_command;
+mod page_command;
+mod page_words;
+mod report_command;
 mod runner;
 mod status;
+mod stops;
 mod words;
+mod writing;
 
+use crate::collect_command::run_collect;
+use crate::collect_words::CollectWords;
 use crate::runner::{run, run_explain};
 use crate::status::DeskStatus;
 use crate::words::{DeskCommand, Request, request_of};
-use shelf::{FolderShelf, OutSink};
+use shelf::{FolderShelf, OutSink, Sink};
 use std::alloc::AllocError;
+use std::fs::Files;
 use std::io::{Input, Read};
 use std::process::ExitCode;
 use std::rt::Env;
@@ -49,6 +62,31 @@ fn standard_input(rt: &(impl Input + AllocGlobal)) -> Vec<u8> {
     }
 }
 
+/// What the program was built from, where its script says so.
+fn built_from(rt: &(impl Env + AllocGlobal)) -> String {
+    match env::var(rt, "PBS_BUILT_FROM") {
+        Ok(built) => built,
+        Err(_) => String::new(rt.alloc()),
+    }
+}
+
+/// Makes the text of bids of what lies in other folders.
+fn collected<'a, R: Files + AllocGlobal>(
+    rt: &'a R,
+    shelf: &mut FolderShelf<'a, R>,
+    out: &mut impl Sink,
+    words: CollectWords,
+) -> DeskStatus {
+    let mut sheets = FolderShelf::new(rt, words.sheets);
+    match words.standing {
+        Some(folder) => {
+            let mut old = FolderShelf::new(rt, folder);
+            run_collect(rt.alloc(), shelf, &mut sheets, Some(&mut old), out, words.is_forced)
+        }
+        None => run_collect(rt.alloc(), shelf, &mut sheets, None, out, words.is_forced),
+    }
+}
+
 fn main(rt: HostRuntime) -> ExitCode {
     let mut out = OutSink::new(io::writer(&rt));
     let Ok(request) = asked_for(&rt) else {
@@ -60,7 +98,14 @@ fn main(rt: HostRuntime) -> ExitCode {
         DeskCommand::ExplainInput => {
             run_explain(rt.alloc(), &mut shelf, &mut out, &standard_input(&rt))
         }
-        command => run(rt.alloc(), &mut shelf, &mut out, &command),
+        DeskCommand::Collect(words) => collected(&rt, &mut shelf, &mut out, words),
+        command => run(
+            rt.alloc(),
+            &mut shelf,
+            &mut out,
+            &command,
+            built_from(&rt).as_bytes(),
+        ),
     };
     ExitCode::from(status.code())
 }

@@ -1,5 +1,9 @@
-//! The words of the command line.
+//! The words of the command line. Each command has its grammar and its words in a file of its own.
 
+use crate::collect_words::{CollectWords, collect_grammar, collect_words};
+use crate::page_words::{page_grammar, page_words};
+use clap::error::ErrorKind;
+use clap::{ArgMatches, Command as Grammar};
 use std::alloc::{AllocError, Global};
 
 /// What the desk is asked to do.
@@ -11,6 +15,16 @@ pub enum DeskCommand {
     ExplainInput,
     /// Say what is wrong with the files, and what looks wrong.
     Lint,
+    /// Write the page of the month.
+    Page,
+    /// Write the page of the pilot of this name.
+    PilotPage(String),
+    /// Write the page of what can be bid for.
+    Packet,
+    /// Make the text of bids of what each pilot sent.
+    Collect(CollectWords),
+    /// Write the report for planners.
+    Report,
     /// Say what each command is for.
     Help,
     /// Say that the words are no command.
@@ -22,6 +36,78 @@ pub enum DeskCommand {
 pub struct Request {
     pub folder: String,
     pub command: DeskCommand,
+}
+
+/// A program with a command more.
+fn and_command<'w>(
+    program: Grammar<'w>,
+    command: Result<Grammar<'w>, AllocError>,
+) -> Result<Grammar<'w>, AllocError> {
+    match command {
+        Ok(command) => program.subcommand(command),
+        Err(error) => Err(error),
+    }
+}
+
+/// The program with the commands of one word.
+fn with_lone<'w>(alloc: Global) -> Result<Grammar<'w>, AllocError> {
+    let program = Grammar::new(alloc, "pbs-desk").subcommand(Grammar::new(alloc, "lint"))?;
+    let program = program.subcommand(Grammar::new(alloc, "packet"))?;
+    program.subcommand(Grammar::new(alloc, "report"))
+}
+
+/// The commands, but for `explain` and `help`, behind which any words may stand.
+fn grammar<'w>(alloc: Global) -> Result<Grammar<'w>, AllocError> {
+    let program = with_lone(alloc)?;
+    let program = and_command(program, page_grammar(alloc))?;
+    and_command(program, collect_grammar(alloc))
+}
+
+/// What `clap` reads from the words, of which the first is the program's name, or nothing where it refuses them.
+fn parse<'w>(alloc: Global, words: &'w [&'w str]) -> Result<Option<ArgMatches<'w>>, AllocError> {
+    let commands = grammar(alloc)?;
+    match commands.try_get_matches_from(words) {
+        Ok(matches) => Ok(Some(matches)),
+        Err(error) => {
+            if error.kind() == ErrorKind::OutOfMemory {
+                return Err(AllocError);
+            }
+            Ok(None)
+        }
+    }
+}
+
+/// The command of a name, with what was read behind it.
+fn named(alloc: Global, name: &str, found: &ArgMatches<'_>) -> Result<DeskCommand, AllocError> {
+    match name {
+        "lint" => Ok(DeskCommand::Lint),
+        "page" => page_words(alloc, found),
+        "packet" => Ok(DeskCommand::Packet),
+        "collect" => collect_words(alloc, found),
+        "report" => Ok(DeskCommand::Report),
+        _ => Ok(DeskCommand::Usage),
+    }
+}
+
+/// The command of these words, behind the program's name.
+fn command_of(alloc: Global, texts: &[&str]) -> Result<DeskCommand, AllocError> {
+    let Some(matches) = parse(alloc, texts)? else {
+        return Ok(DeskCommand::Usage);
+    };
+    let Some((name, found)) = matches.subcommand() else {
+        return Ok(DeskCommand::Usage);
+    };
+    named(alloc, name, found)
+}
+
+/// The command of these words.
+fn read(alloc: Global, words: &[String]) -> Result<DeskCommand, AllocError> {
+    let mut texts = Vec::new(alloc);
+    texts.push("pbs-desk")?;
+    for word in words {
+        texts.push(word.as_str())?;
+    }
+    command_of(alloc, &texts)
 }
 
 /// Words with a blank between each two.
@@ -36,27 +122,26 @@ fn joined(alloc: Global, words: &[String]) -> Result<String, AllocError> {
     Ok(line)
 }
 
-/// The command with these words behind it.
-fn command_of(alloc: Global, name: &str, words: &[String]) -> Result<DeskCommand, AllocError> {
-    if name == "explain" {
-        if words.is_empty() {
-            return Ok(DeskCommand::ExplainInput);
-        }
-        return Ok(DeskCommand::Explain(joined(alloc, words)?));
+/// The command `explain` with these words behind it.
+fn explain_words(alloc: Global, words: &[String]) -> Result<DeskCommand, AllocError> {
+    if words.is_empty() {
+        return Ok(DeskCommand::ExplainInput);
     }
-    if !words.is_empty() {
-        return Ok(DeskCommand::Usage);
-    }
-    match name {
-        "lint" => Ok(DeskCommand::Lint),
-        "help" | "--help" => Ok(DeskCommand::Help),
-        _ => Ok(DeskCommand::Usage),
-    }
+    Ok(DeskCommand::Explain(joined(alloc, words)?))
 }
 
 /// Whether a word asks for help.
 fn asks_help(word: &str) -> bool {
     word == "help" || word == "--help"
+}
+
+/// The command of the words behind the folder.
+fn behind(alloc: Global, words: &[String]) -> Result<DeskCommand, AllocError> {
+    match words.split_first() {
+        Some((name, rest)) if name.as_str() == "explain" => explain_words(alloc, rest),
+        Some((name, _)) if asks_help(name.as_str()) => Ok(DeskCommand::Help),
+        _ => read(alloc, words),
+    }
 }
 
 /// What these words ask for: the folder is the first of them.
@@ -67,10 +152,10 @@ pub fn request_of(alloc: Global, words: &[String]) -> Result<Request, AllocError
             command: DeskCommand::Usage,
         });
     };
-    let command = match rest.split_first() {
-        Some((name, others)) => command_of(alloc, name.as_str(), others)?,
-        None if asks_help(folder.as_str()) => DeskCommand::Help,
-        None => DeskCommand::Usage,
+    let command = if rest.is_empty() && asks_help(folder.as_str()) {
+        DeskCommand::Help
+    } else {
+        behind(alloc, rest)?
     };
     Ok(Request {
         folder: String::from_str(alloc, folder.as_str())?,

@@ -1,7 +1,7 @@
 //! Texts that would be markup in a page.
 
 use duty_calendar::List;
-use month_page::put_escaped;
+use page_parts::put_escaped;
 use std::test::Fail;
 
 #[test]

@@ -1,3 +1,2 @@
-pub mod Escaping
 pub mod PageEnds
 pub mod Pages

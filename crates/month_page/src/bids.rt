@@ -1,26 +1,23 @@
-//! The bids of a pilot, and why some are denied.
+//! The bids of a pilot, and why some are denied: each reason once, with the bids that it is about.
 
-use crate::html::Html;
 use crate::pilot::{Pilot, SeenBid};
 use duty_calendar::{Member, Memory};
+use page_parts::Html;
 use roster_model::Cause;
 
-/// Appends a link to the row of the pilot at a place above 0.
-fn put_link(html: &mut Html, members: &[Member], place: u32) -> Result<(), Memory> {
-    html.markup(b"<a href=\"#p")?;
-    html.number(place)?;
-    html.markup(b"\">")?;
+/// Appends the name of the pilot at a place above 0.
+fn put_name(html: &mut Html, members: &[Member], place: u32) -> Result<(), Memory> {
     if let Some(member) = members.get(place.saturating_sub(1) as usize) {
         html.text(member.name.bytes())?;
     }
-    html.markup(b"</a>")
+    Ok(())
 }
 
 /// Appends the sentence on a place of seniority.
 fn put_place(html: &mut Html, members: &[Member], place: u32) -> Result<(), Memory> {
     if place == 1 {
         html.markup(b"Each legal roster that grants it gives less to ")?;
-        put_link(html, members, place)?;
+        put_name(html, members, place)?;
         return html.markup(b", the most senior.");
     }
     html.markup(b"Whatever legal roster grants it, somebody at the first ")?;
@@ -29,7 +26,7 @@ fn put_place(html: &mut Html, members: &[Member], place: u32) -> Result<(), Memo
         b" places gets less, before anybody there gets more. The first place at which it must cost ",
     )?;
     html.markup(b"something is that of ")?;
-    put_link(html, members, place)?;
+    put_name(html, members, place)?;
     html.markup(b".")
 }
 
@@ -53,18 +50,63 @@ fn put_cause(
     }
 }
 
-/// Appends a bid of the pilot at a place.
-fn put_bid(html: &mut Html, members: &[Member], own: u32, bid: &SeenBid) -> Result<(), Memory> {
-    if bid.granted {
-        html.markup(b"<li class=\"y\"><b>granted</b> ")?;
-        html.text(bid.text.as_slice())?;
-        return html.markup(b"</li>\n");
-    }
-    html.markup(b"<li class=\"x\"><b>denied</b> ")?;
+/// Appends a bid.
+fn put_bid(html: &mut Html, bid: &SeenBid) -> Result<(), Memory> {
+    html.markup(b"<li value=\"")?;
+    html.number(bid.number)?;
+    html.markup(b"\">")?;
     html.text(bid.text.as_slice())?;
-    html.markup(b"<p>")?;
-    put_cause(html, members, own, bid.cause)?;
-    html.markup(b"</p></li>\n")
+    html.markup(b"</li>\n")
+}
+
+/// Whether a bid is denied for a cause.
+fn is_denied(bid: &SeenBid, cause: Option<Cause>) -> bool {
+    !bid.granted && bid.cause == cause
+}
+
+/// Whether a bid before that of this number is denied for a cause.
+fn was_said(bids: &[SeenBid], number: u32, cause: Option<Cause>) -> bool {
+    for bid in bids {
+        if bid.number < number && is_denied(bid, cause) {
+            return true;
+        }
+    }
+    false
+}
+
+/// Appends the bids that are denied for a cause.
+fn put_denied(html: &mut Html, bids: &[SeenBid], cause: Option<Cause>) -> Result<(), Memory> {
+    html.markup(b"<ol class=\"x\">\n")?;
+    for bid in bids {
+        if is_denied(bid, cause) {
+            put_bid(html, bid)?;
+        }
+    }
+    html.markup(b"</ol>\n")
+}
+
+/// Appends each cause with the bids that it is about.
+fn put_causes(html: &mut Html, members: &[Member], pilot: &Pilot) -> Result<(), Memory> {
+    for bid in &pilot.bids {
+        if !bid.granted && !was_said(&pilot.bids, bid.number, bid.cause) {
+            html.markup(b"<p class=\"why\">")?;
+            put_cause(html, members, pilot.place, bid.cause)?;
+            html.markup(b"</p>\n")?;
+            put_denied(html, &pilot.bids, bid.cause)?;
+        }
+    }
+    Ok(())
+}
+
+/// Appends the bids that are granted.
+fn put_granted(html: &mut Html, pilot: &Pilot) -> Result<(), Memory> {
+    html.markup(b"<h4 class=\"y\">&#10003; Granted</h4>\n<ol class=\"y\">\n")?;
+    for bid in &pilot.bids {
+        if bid.granted {
+            put_bid(html, bid)?;
+        }
+    }
+    html.markup(b"</ol>\n")
 }
 
 /// Appends the bids of a pilot.
@@ -72,9 +114,11 @@ pub fn put_bids(html: &mut Html, members: &[Member], pilot: &Pilot) -> Result<()
     if pilot.bids.is_empty() {
         return html.markup(b"<p>No bids.</p>\n");
     }
-    html.markup(b"<ol>\n")?;
-    for bid in &pilot.bids {
-        put_bid(html, members, pilot.place, bid)?;
+    if pilot.count(true) > 0 {
+        put_granted(html, pilot)?;
     }
-    html.markup(b"</ol>\n")
+    if pilot.count(false) > 0 {
+        html.markup(b"<h4 class=\"x\">&#10005; Denied</h4>\n")?;
+    }
+    put_causes(html, members, pilot)
 }

@@ -34,16 +34,6 @@ impl Mark {
             Mark::Leave => b"l",
         }
     }
-
-    /// The letter in the bar of a fixed event.
-    pub fn letter(self) -> Option<&'static [u8]> {
-        match self {
-            Mark::Trip => None,
-            Mark::Flight => Some(b"F"),
-            Mark::Ground => Some(b"G"),
-            Mark::Leave => Some(b"L"),
-        }
-    }
 }
 
 /// A trip, or a fixed event under the word of its kind. A fixed event has no duties.

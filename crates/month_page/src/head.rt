@@ -1,21 +1,18 @@
-//! The head of the page.
-ghost use Rattle.std.specs.Prelude.{◌≤◌, ◌<◌, ◌+◌};
-ghost use Rattle.duty_calendar.specs.Calendar.{month_days};
+//! The head of a page.
 
-use crate::html::Html;
 use crate::style::STYLE;
-use crate::times::{is_weekend, month_name};
 use duty_calendar::{Base, Horizon, Member, Memory, Rules};
+use page_parts::{FIRST_DAY, Html, is_weekend, month_name, put_style};
 
 /// Appends the base, the seat and the month.
-fn put_title(html: &mut Html, rules: &Rules) -> Result<(), Memory> {
+pub fn put_title(html: &mut Html, rules: &Rules) -> Result<(), Memory> {
     html.text(&rules.base.bytes())?;
     html.markup(b" ")?;
     html.text(rules.seat.bytes())?;
     html.markup(b", ")?;
     html.markup(month_name(u32::from(rules.horizon.month())))?;
     html.markup(b" ")?;
-    html.number(rules.horizon.year() as u32)
+    html.number(u32::try_from(rules.horizon.year()).unwrap_or(0))
 }
 
 /// Appends what lies behind a day of the month, which is the day of this number from 1 on.
@@ -34,8 +31,9 @@ fn put_shade(html: &mut Html, is_shaded: bool, days: u32, number: u32) -> Result
 /// Appends what lies behind the days: Saturdays and Sundays are shaded.
 fn put_shades(html: &mut Html, horizon: &Horizon) -> Result<(), Memory> {
     html.markup(b"linear-gradient(90deg")?;
-    for day in 365..365 + horizon.days() {
-        put_shade(html, is_weekend(horizon, day), horizon.days(), day - 364)?;
+    for day in 0..horizon.days() {
+        let is_shaded = is_weekend(horizon, FIRST_DAY + day);
+        put_shade(html, is_shaded, horizon.days(), day + 1)?;
     }
     html.markup(b")")
 }
@@ -56,34 +54,28 @@ fn put_month_style(html: &mut Html, base: &Base) -> Result<(), Memory> {
     html.number(1440 * horizon.days())?;
     html.markup(b";--n:")?;
     html.number(longest_name(base.members.as_slice()))?;
-    html.markup(
-        b"}\ntd.l>div{background:repeating-linear-gradient(90deg,var(--rule) 0 1px,#fff0 0 calc(100%/",
-    )?;
+    html.markup(b"}\n.strip{background:repeating-linear-gradient(90deg,var(--rule) 0 1px,#0000 0 calc(100%/")?;
     html.number(horizon.days())?;
     html.markup(b")),\n")?;
     put_shades(html, horizon)?;
-    html.markup(b"}\n")
+    html.markup(b"}\n.grounds{display:flex}.grounds span{flex:1;font-size:.75rem}\n")
 }
 
-/// Appends the style.
-fn put_style(html: &mut Html, base: &Base) -> Result<(), Memory> {
-    for line in STYLE {
-        html.markup(line)?;
-        html.markup(b"\n")?;
-    }
-    put_month_style(html, base)
-}
-
-/// Appends the document's head.
-pub fn put_head(html: &mut Html, base: &Base) -> Result<(), Memory> {
+/// Appends the head of a document about a month, up to its title's end.
+pub fn put_document(html: &mut Html, rules: &Rules) -> Result<(), Memory> {
     html.markup(b"<!DOCTYPE html>\n<html lang=\"en\">\n<head>\n<meta charset=\"utf-8\">\n")?;
-    html.markup(
-        b"<meta name=\"viewport\" content=\"width=device-width, initial-scale=1\">\n<title>",
-    )?;
-    put_title(html, &base.rules)?;
+    html.markup(b"<meta name=\"viewport\" content=\"width=device-width, initial-scale=1\">\n<title>")?;
+    put_title(html, rules)
+}
+
+/// Appends the rest of the document's head, with the styles of pages, strips, this month and this page alone.
+pub fn put_styles(html: &mut Html, base: &Base, own: &'static [u8]) -> Result<(), Memory> {
     html.markup(b"</title>\n<style>\n")?;
-    put_style(html, base)?;
-    html.markup(b"</style>\n</head>\n")
+    put_style(html)?;
+    html.markup(STYLE)?;
+    put_month_style(html, base)?;
+    html.markup(own)?;
+    html.markup(b"</style>\n</head>\n<body>\n")
 }
 
 /// Appends by how much the base's clock is ahead of UTC or behind it.
@@ -96,7 +88,14 @@ fn put_offset(html: &mut Html, horizon: &Horizon) -> Result<(), Memory> {
     html.hours(u32::from(horizon.offset().unsigned_abs()))
 }
 
-/// Appends the heading.
+/// Appends by which clock times are said.
+pub fn put_clock(html: &mut Html, horizon: &Horizon) -> Result<(), Memory> {
+    html.markup(b"All times are by the clock of the base, UTC")?;
+    put_offset(html, horizon)?;
+    html.markup(b".")
+}
+
+/// Appends the heading of the roster's page.
 pub fn put_heading(html: &mut Html, base: &Base) -> Result<(), Memory> {
     html.markup(b"<header>\n<h1>")?;
     put_title(html, &base.rules)?;
@@ -104,7 +103,7 @@ pub fn put_heading(html: &mut Html, base: &Base) -> Result<(), Memory> {
     html.count(base.members.len())?;
     html.markup(b" pilots in order of seniority, ")?;
     html.count(base.pairings.len())?;
-    html.markup(b" trips. All times are by the clock of the base, UTC")?;
-    put_offset(html, &base.rules.horizon)?;
-    html.markup(b".</p>\n</header>\n")
+    html.markup(b" trips. ")?;
+    put_clock(html, &base.rules.horizon)?;
+    html.markup(b"</p>\n<nav class=\"tool\"><a href=\"#cards\">Lines and bids</a><a href=\"#trips\">Trips</a><a href=\"#open\">Open trips</a><a href=\"#charts\">Charts</a><span id=\"search\"></span></nav>\n</header>\n")
 }

@@ -1,21 +1,38 @@
-//! A month as a page for a browser: crew as rows, days as columns, and why bids were denied.
+//! A month as pages for a browser: crew as rows, days as columns, why bids were denied, who flies what; and the page of one
+//! pilot.
 #![tactic(auto)]
 
 mod bids;
 mod card;
+mod charts;
 mod entry;
-mod escaping;
 mod head;
-mod html;
+mod offer_words;
+mod offers;
 mod page_stop;
 mod paging;
 mod pilot;
+mod pilot_page;
+mod plan;
 mod printing;
+mod route;
 mod row;
+mod script;
+mod strip;
 mod style;
-mod times;
+mod sums;
+mod trips;
 
-pub use escaping::put_escaped;
+pub use charts::{GROUNDS, Ground, count_bids, count_denied, put_charts};
+pub use head::{put_clock, put_document, put_styles, put_title};
 pub use page_stop::PageStop;
-pub use paging::page;
+pub use paging::{Seen, page, read_seen};
+pub use pilot::{Pilot, SeenBid, pilots_of};
+pub use pilot_page::pilot_page;
+pub use plan::plan_texts;
 pub use printing::print_page;
+pub use route::put_route;
+pub use script::SCRIPT;
+pub use strip::{put_day_heads, put_strip};
+pub use sums::{push_plan, sums_of};
+pub use trips::{count_of, days_of, lack_of, put_cells, put_trips_head};

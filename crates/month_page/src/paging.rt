@@ -1,5 +1,5 @@
 //! From the files of a folder to its page.
-ghost use Rattle.std.specs.Prelude.{◌≡◌, ◌≤◌, ◌++◌, IfOk, length};
+ghost use Rattle.std.specs.Prelude.{◌≡◌, ◌≤◌, ◌<◌, ◌++◌, All, IfOk, length};
 ghost use Rattle.std.specs.Option.{ForSome};
 ghost use Rattle.month_files.specs.FileNames.{limit_of};
 ghost use Rattle.month_files.specs.Reading.{HasCause, Finds, AreShort, view_texts};
@@ -11,18 +11,20 @@ ghost use Rattle.month_page.specs.Pages.{seen_in, view_seen, seen_texts, ComesOf
 
 use crate::page_stop::PageStop;
 use crate::printing::print_page;
-use duty_calendar::List;
+use crate::sums::sums_of;
+use duty_calendar::{List, Memory};
 use month_files::{File, Texts, Unread, WriteStop, read_file, read_month, read_texts};
+use roster_model::{Problem, Reasons, Roster};
 use roster_text::{read_reasons, read_roster};
 use shelf::{Shelf, ShelfFault};
 use std::alloc::Global;
 
 /// What is read.
 #[derive(Drop)]
-struct Seen {
-    texts: Texts,
-    roster: Vec<u8>,
-    reasons: Vec<u8>,
+pub struct Seen {
+    pub texts: Texts,
+    pub roster: Vec<u8>,
+    pub reasons: Vec<u8>,
 }
 
 /// The bytes of a page, and how many members it shows.
@@ -34,7 +36,7 @@ struct Sheet {
 
 /// Reads the inputs, the roster and the reasons.
 #[tactic(auto, unfolding(crate::specs::Pages::seen_in))]
-fn read_seen<S: Shelf>(alloc: Global, shelf: &mut S) -> Result<Seen, Unread>
+pub fn read_seen<S: Shelf>(alloc: Global, shelf: &mut S) -> Result<Seen, Unread>
     ensures cause { HasCause (S.tally shelf.old) (S.tally shelf.new) result }
     ensures told { ForSome (S.holds shelf.old) (λ files. Finds view_seen result (seen_in files)) }
     ensures short { IfOk result (λ s. AreShort (view_texts s.texts)) }
@@ -54,8 +56,24 @@ fn read_seen<S: Shelf>(alloc: Global, shelf: &mut S) -> Result<Seen, Unread>
     })
 }
 
+/// The bytes of the page, with the sums of what was read.
+fn bytes_of(
+    alloc: Global,
+    seen: &Seen,
+    problem: &Problem,
+    roster: &Roster,
+    reasons: &Reasons,
+    built: &[u8],
+) -> Result<List<u8>, Memory>
+    requires lines { length roster.now ≡ length problem.now.base.members }
+    requires in_range { All (All (λ p. p < length problem.now.base.pairings)) roster.now }
+{
+    let sums = sums_of(alloc, seen)?;
+    print_page(alloc, problem, roster, reasons, &sums, built)
+}
+
 /// The page of the month that was read.
-fn page_of(alloc: Global, seen: &Seen) -> Result<Sheet, PageStop>
+fn page_of(alloc: Global, seen: &Seen, built: &[u8]) -> Result<Sheet, PageStop>
     requires short { AreShort (view_texts seen.now.texts) }
     requires limit { length seen.now.reasons.items ≤ limit_of ReasonsFile }
     ensures comes { ComesOf (view_seen seen.now) result }
@@ -63,7 +81,7 @@ fn page_of(alloc: Global, seen: &Seen) -> Result<Sheet, PageStop>
     let problem = read_month(alloc, &seen.texts)?;
     let roster = read_roster(alloc, &seen.roster, &problem)?;
     let reasons = read_reasons(alloc, &seen.reasons, &problem)?;
-    let bytes = print_page(alloc, &problem, &roster, &reasons)?;
+    let bytes = bytes_of(alloc, seen, &problem, &roster, &reasons, built)?;
     Ok(Sheet {
         bytes,
         members: problem.base.members.len() as u32,
@@ -87,15 +105,15 @@ fn write_page<S: Shelf>(alloc: Global, shelf: &mut S, bytes: &[u8]) -> Result<()
 }
 
 /// Writes `month.html`, the page of the month, the roster and the reasons in the folder. The answer is how many members
-/// it shows.
-pub fn page<S: Shelf>(alloc: Global, shelf: &mut S) -> Result<u32, PageStop>
+/// it shows. `built` says what the program was built from, or nothing.
+pub fn page<S: Shelf>(alloc: Global, shelf: &mut S, built: &[u8]) -> Result<u32, PageStop>
     ensures cause { PageCause (S.tally shelf.old) (S.tally shelf.new) result }
     ensures told { ForSome (S.holds shelf.old) (λ files. IsPageRun files result) }
     ensures left { PageLeaves (S.holds shelf.old) (S.holds shelf.new) result }
     ensures handed { IsPageHanded (S.log shelf.old) (S.log shelf.new) result }
 {
     let seen = read_seen(alloc, shelf)?;
-    let sheet = page_of(alloc, &seen)?;
+    let sheet = page_of(alloc, &seen, built)?;
     match write_page(alloc, shelf, sheet.bytes.as_slice()) {
         Ok(()) => Ok(sheet.members),
         Err(why) => Err(PageStop::Unwritten(why)),

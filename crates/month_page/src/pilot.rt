@@ -5,16 +5,21 @@ ghost use Rattle.roster_model.specs.Scores.{bids_of};
 use crate::entry::{Entry, entries_of};
 use bid_language::put_bid;
 use bid_score::{credit, days_off, granted, score};
-use duty_calendar::{List, Member, Memory};
-use roster_model::{BidRef, Cause, Denial, Line, Problem};
+use duty_calendar::{Interval, List, Member, Memory};
+use roster_model::{BidRef, Cause, Denial, Line, Problem, Roster, Wish, pairing_span};
 use std::alloc::Global;
 
-/// A bid, and whether the pilot's line grants it. Of a denied one there may be a cause.
+/// A bid, and whether the pilot's line grants it. Of a denied one there may be a cause; of one for a trip or for days there
+/// are the minutes that it is about, and `is_off` says that it is for days off. Numbers count from 1.
 #[derive(Drop)]
 pub struct SeenBid {
+    pub number: u32,
+    pub weight: u32,
     pub text: List<u8>,
     pub granted: bool,
     pub cause: Option<Cause>,
+    pub span: Option<Interval>,
+    pub is_off: bool,
 }
 
 /// A pilot with a line. Places count from 1, times and credit are in minutes.
@@ -27,6 +32,7 @@ pub struct Pilot<'a> {
     pub credit: u32,
     pub score: u32,
     pub days_off: u32,
+    pub line: &'a [u32],
     pub entries: Vec<Entry<'a>>,
     pub bids: Vec<SeenBid>,
 }
@@ -41,24 +47,48 @@ fn cause_of(reasons: &[Denial], bid: BidRef) -> Option<Cause> {
     None
 }
 
+/// The minutes that a wish for days or for a trip is about.
+fn wanted(problem: &Problem, wish: &Wish) -> Option<Interval> {
+    match wish {
+        Wish::Off(first, last) => Some(Interval {
+            start: first.saturating_mul(1440),
+            stop: last.saturating_add(1).saturating_mul(1440),
+        }),
+        Wish::Fly(pairing) => {
+            let pairings = problem.base.pairings.as_slice();
+            pairings.get(*pairing as usize).map(pairing_span)
+        }
+        Wish::Avoid(_)
+        | Wish::Prefer(_, _)
+        | Wish::CreditBelow(_)
+        | Wish::CreditAbove(_)
+        | Wish::DaysOff(_) => None,
+    }
+}
+
 /// A bid of a member with a line.
 fn seen_bid(
     alloc: Global,
     problem: &Problem,
     reasons: &[Denial],
-    bid: BidRef,
+    at: BidRef,
     line: &Line,
 ) -> Result<SeenBid, Memory>
-    requires member { bid.member < length problem.now.base.members }
-    requires bid { bid.bid < length (bids_of problem.now bid.member) }
+    requires member { at.member < length problem.now.base.members }
+    requires bid { at.bid < length (bids_of problem.now at.member) }
     requires in_range { All (λ p. p < length problem.now.base.pairings) line.now }
 {
     let mut text = List::new(alloc);
-    put_bid(&mut text, problem, bid)?;
+    put_bid(&mut text, problem, at)?;
+    let bid = &problem.bids.as_slice()[at.member as usize].as_slice()[at.bid as usize];
     Ok(SeenBid {
+        number: at.bid.saturating_add(1),
+        weight: bid.weight,
         text,
-        granted: granted(problem, bid.member, bid.bid, line),
-        cause: cause_of(reasons, bid),
+        granted: granted(problem, at.member, at.bid, line),
+        cause: cause_of(reasons, at),
+        span: wanted(problem, &bid.wish),
+        is_off: matches!(bid.wish, Wish::Off(_, _)),
     })
 }
 
@@ -102,7 +132,7 @@ pub fn pilot_of<'a>(
     problem: &'a Problem,
     reasons: &[Denial],
     member: u32,
-    line: &Line,
+    line: &'a Line,
 ) -> Result<Pilot<'a>, Memory>
     requires member { member < length problem.now.base.members }
     requires in_range { All (λ p. p < length problem.now.base.pairings) line.now }
@@ -116,9 +146,28 @@ pub fn pilot_of<'a>(
         credit: credit(problem, member, line),
         score: score(problem, member, line),
         days_off: days_off(problem, member, line),
+        line: line.pairings(),
         entries: entries_of(alloc, problem, member, line.pairings())?,
         bids: seen_bids(alloc, problem, reasons, member, line)?,
     })
+}
+
+/// All members with their lines.
+pub fn pilots_of<'a>(
+    alloc: Global,
+    problem: &'a Problem,
+    roster: &'a Roster,
+    reasons: &[Denial],
+) -> Result<Vec<Pilot<'a>>, Memory>
+    requires lines { length roster.now ≡ length problem.now.base.members }
+    requires in_range { All (All (λ p. p < length problem.now.base.pairings)) roster.now }
+{
+    let mut pilots = Vec::new(alloc);
+    for member in 0..problem.base.members.len() as u32 {
+        let line = &roster.as_slice()[member as usize];
+        pilots.push(pilot_of(alloc, problem, reasons, member, line)?)?;
+    }
+    Ok(pilots)
 }
 
 impl<'a> Pilot<'a> {
@@ -131,5 +180,19 @@ impl<'a> Pilot<'a> {
             }
         }
         count
+    }
+
+    /// The weight of all bids.
+    pub fn weight(&self) -> u32 {
+        let mut sum: u32 = 0;
+        for bid in &self.bids {
+            sum = sum.saturating_add(bid.weight);
+        }
+        sum
+    }
+
+    /// Whether the line has a pairing.
+    pub fn flies(&self, pairing: u32) -> bool {
+        self.line.iter().any(|number| *number == pairing)
     }
 }

@@ -1,90 +1,55 @@
-//! What the page looks like.
+//! What the page of a month looks like.
 
-/// The rules of the style that hang on no month. `--t` is how many minutes the month has. The box of a bar begins at `--a`
-/// and has `--g` minutes; in it the bar begins at `--b` and has `--w`.
-pub static STYLE: [&[u8]; 71] = [
-    b":root{--ink:#15202b;--soft:#5a6772;--rule:#d5dbe1;--shade:#eef1f4;--paper:#fff;--trip:#cfe3f7;--edge:#1f5c99;--no:#a12622}",
-    b"*,*:before{box-sizing:border-box}",
-    b"html{-webkit-text-size-adjust:100%;color-scheme:light}",
-    b"body{margin:0;padding:1rem;color:var(--ink);background:var(--paper);font:.95rem/1.35 system-ui,-apple-system,\"Segoe UI\",Roboto,\"DejaVu Sans\",sans-serif}",
-    b"h1{margin:0;font-size:1.5rem}",
-    b"h2{margin:1.5rem 0 .5rem;font-size:1.2rem}",
-    b"h3{margin:0;font-size:1.05rem}",
-    b"p{margin:.15rem 0}",
-    b"a{color:#0b4f8a}",
-    b"small{color:var(--soft);font-size:.8em;font-weight:400}",
-    b".key{display:flex;flex-wrap:wrap;gap:.4rem 1.2rem;margin:.8rem 0;padding:0;list-style:none;font-size:.85rem}",
-    b".key li{display:flex;align-items:center;gap:.4rem}",
-    b".wide{max-height:94vh;overflow:auto;border:1px solid var(--rule)}",
-    b"table{table-layout:fixed;border-collapse:separate;border-spacing:0;width:100%;min-width:84rem;font-size:.8rem;font-variant-numeric:tabular-nums}",
-    b"th,td{padding:0 .35rem;border-bottom:1px solid var(--rule);background:var(--paper);text-align:right;white-space:nowrap}",
-    b"thead th{position:sticky;top:0;z-index:3;width:3.4rem;padding:.25rem .35rem;border-bottom:2px solid var(--ink);vertical-align:bottom}",
-    b"thead th.c{width:5.4rem}",
-    b"thead th.y{width:4.3rem}",
-    b"th.n{position:sticky;left:0;z-index:2;text-align:left;border-right:1px solid var(--rule)}",
-    b"thead th.n{z-index:4;width:calc(var(--n)*1.15ch + 3.2rem)}",
-    b"th.n small{display:inline-block;min-width:1.5em;text-align:right}",
-    b"thead th.d{width:auto;padding:.2rem 0;text-align:center;font-weight:400;border-left:1px solid var(--rule)}",
-    b"thead th.w{background:var(--shade);font-weight:700}",
-    b"td.c small{display:block;line-height:1}",
-    b"td.l{padding:0;border-left:1px solid var(--rule)}",
-    b"td.l>div{position:relative;height:2.4rem;overflow:hidden}",
-    b"tr:target>*{background:#fff6d6}",
-    b"tr,section{scroll-margin-top:4rem}",
-    b"span.t,span.f,span.g,span.l{position:relative;display:inline-block;height:1.5rem;overflow:hidden;pointer-events:none}",
-    b"td.l span{position:absolute;top:.45rem;left:calc(var(--a)*100%/var(--t));width:calc(var(--g)*100%/var(--t))}",
-    b"span.t:before,span.f:before,span.g:before,span.l:before{content:\"\";position:absolute;top:0;bottom:0;left:calc(var(--b)*100%/var(--g));width:calc(var(--w)*100%/var(--g));min-width:4px;border:1px solid var(--edge);border-radius:3px;pointer-events:auto}",
-    b"span.t:before{background:var(--trip);border-left-width:3px}",
-    b"span.f:before{background:#e6ddf5;border:3px double #5b3a96}",
-    b"span.g:before{background:repeating-linear-gradient(135deg,#f4d9b8 0 3px,#fff 3px 6px);border-color:#8a5a12}",
-    b"span.l:before{background:radial-gradient(#5f8f5f 1px,#e9f5e6 1.2px) 0 0/6px 6px;border:1px dashed #2f6b34}",
-    b"span.o:before{border-right:4px dotted var(--edge);border-top-right-radius:0;border-bottom-right-radius:0}",
-    b"span b{position:relative;display:block;overflow:hidden;text-align:left;padding:0 .35rem;line-height:1.5rem;font-size:.7rem;font-weight:600;text-overflow:ellipsis;text-shadow:0 0 2px #fff,0 0 2px #fff,0 0 2px #fff;white-space:nowrap;pointer-events:auto}",
-    b"span.s:before{top:.8rem}",
-    b"span.s b{padding:0;line-height:.8rem;font-size:.68rem}",
-    b"span.e b{text-align:right}",
-    b"i{color:#6d7a86;font-style:normal}",
-    b"td.l i{position:absolute;top:.7rem;left:calc(var(--a)*100%/var(--t));width:calc(144000%/var(--t));line-height:1;text-align:center}",
-    b"span.m{position:relative;display:inline-block;width:4.5rem;height:.35rem;border:1px solid var(--soft);background:var(--shade)}",
-    b"td.c span.m{display:block;width:100%;margin:2px 0 4px}",
-    b"span.m:before{content:\"\";position:absolute;top:-2px;bottom:-2px;width:3px;margin-left:-1px;left:calc(var(--a,1)*100%/var(--s,2));background:var(--ink)}",
-    b"main{display:grid;grid-template-columns:repeat(auto-fill,minmax(min(22rem,100%),1fr));gap:.8rem}",
-    b"section{padding:.6rem .8rem;border:1px solid var(--rule);border-radius:6px;font-size:.85rem}",
-    b"section:target{outline:3px solid #e0b52e}",
-    b"section ul,section ol{margin:.4rem 0 0;padding-left:1.4rem}",
-    b"section ul{padding:0;list-style:none}",
-    b"section li small{display:block}",
-    b"li.y b{color:#1d5e26}",
-    b"li.x b{color:var(--no)}",
-    b"li.x b:before{content:\"\\2715\\a0\"}",
-    b"li.y b:before{content:\"\\2713\\a0\"}",
-    b"li.x p{padding-left:.6rem;border-left:2px solid var(--no)}",
-    b"footer{margin-top:1.5rem;color:var(--soft);font-size:.85rem}",
-    b"@media screen and (max-width:40rem){body{padding:.5rem}table{min-width:75rem}thead th:nth-child(n+2):nth-child(-n+5),tbody td:not(.l){display:none}}",
-    b"@media print{@page{size:A4 landscape;margin:8mm}*{-webkit-print-color-adjust:exact;print-color-adjust:exact}",
-    b"html{font-size:10px}",
-    b"body{padding:0}",
-    b".wide{max-height:none;overflow:visible;border:0}",
-    b"table{min-width:0}",
-    b"thead{display:table-header-group}",
-    b"thead th,th.n{position:static}",
-    b"tr,li{break-inside:avoid}",
-    b"h3{break-after:avoid}",
-    b"a{color:inherit;text-decoration:none}",
-    b"h2{break-before:page}",
-    b"main{display:block;columns:4;column-gap:1.2rem}",
-    b"section{margin:0 0 .8rem;padding:.4rem .6rem;font-size:.82rem;-webkit-box-decoration-break:clone;box-decoration-break:clone}}",
-];
+/// The rules of strips and of the roster. `--t` is how many minutes the month has, `--n` how long the longest name is. What
+/// lies in a strip begins at `--a` and has `--w` minutes.
+pub static STYLE: &[u8] = br#".key{display:flex;flex-wrap:wrap;gap:.3rem 1.2rem;margin:.6rem 0;padding:0;list-style:none;font-size:.85rem}
+.key li{display:flex;align-items:center;gap:.4rem}
+.key .strip{width:2.4rem;height:1.2rem;background:none;--t:1}
+table.roster{table-layout:fixed;width:100%}
+.roster th,.roster td{padding:.1rem .3rem;vertical-align:middle}
+.roster th.n{position:sticky;left:0;z-index:2;width:calc(var(--n)*1.1ch + 2.4rem);white-space:nowrap}
+.roster thead th.n{z-index:4}
+th.n small{display:inline-block;min-width:1.5em;text-align:right}
+.roster th.c{width:5.6rem}
+.roster th.s{width:3.2rem}
+.roster th.v{width:3.6rem}
+.roster th.f{width:2.6rem}
+.roster td.c small{display:block;line-height:1}
+.roster td.l,.roster th.l{padding:0}
+.strip{position:relative;height:2.75rem;overflow:hidden}
+.strip>*{position:absolute;left:calc(var(--a)*100%/var(--t));width:calc(var(--w,1440)*100%/var(--t));overflow:hidden;white-space:nowrap;text-decoration:none}
+.days{height:2.3rem}
+.days>.d{top:.2rem;text-align:center;font-weight:400;font-size:.75rem;line-height:1.1}
+.days>.w{font-weight:700}
+.days small{display:block;font-size:.62rem}
+.strip>b{top:.25rem;height:1.1rem;min-width:4px;border:1px solid var(--edge);border-radius:3px}
+b.t{background:var(--trip);border-left-width:3px}
+b.f{background:var(--fly);border:3px double var(--flown)!important}
+b.g{background:repeating-linear-gradient(135deg,var(--ground) 0 3px,var(--paper) 3px 6px);border-color:var(--grounded)!important}
+b.l{background:radial-gradient(var(--left) 1px,var(--leave) 1.2px) 0 0/6px 6px;border:1px dashed var(--left)!important}
+b.o{border-right:4px dotted var(--edge)!important;border-top-right-radius:0;border-bottom-right-radius:0}
+.strip>.n{top:1.4rem;height:.8rem;line-height:.8rem;font-size:.66rem;font-weight:600;container-type:inline-size}
+.strip>.n i{display:block;overflow:hidden;text-overflow:ellipsis;font-style:normal}
+@container (max-width:1.5rem){.n i{display:none!important}}
+.strip>u{top:.25rem;height:1.1rem;width:calc(var(--k)*144000%/var(--t));background:radial-gradient(circle,var(--soft) 1.5px,#0000 2px) 0 0/calc(100%/var(--k)) 100%}
+.strip>s{top:2.25rem;height:4px;border-radius:2px;background:var(--yes)}
+.strip>s.x{top:2.5rem;background:repeating-linear-gradient(90deg,var(--no) 0 4px,#0000 4px 6px)}
+span.m{position:relative;display:block;width:100%;height:.35rem;margin:2px 0;border:1px solid var(--soft);background:var(--shade)}
+span.m:before{content:"";position:absolute;top:-2px;bottom:-2px;width:3px;margin-left:-1px;left:calc(var(--a,1)*100%/var(--s,2));background:var(--ink)}
+.own .strip{height:3.2rem}
+@media screen and (max-width:40rem){.roster,.roster thead,.roster tbody{display:block}.roster tr{display:flex;flex-wrap:wrap;border-bottom:1px solid var(--rule)}.roster th,.roster td{border:0;width:auto!important}.roster th.n{position:static;flex:1}.roster td.c small{display:inline}.roster span.m{display:none}.roster td.l,.roster th.l{flex:0 0 100%}.roster thead{position:sticky;top:0;z-index:3;background:var(--paper)}.roster thead th:not(.l){display:none}.days small{display:none}.days>.d{font-size:.6rem}.days{height:1rem}.roster td.s:before{content:"score "}.roster td.f:after{content:" off"}}
+@media print{.roster{font-size:7.5px}.roster th,.roster td{padding:0 2px}.roster td.c small{display:none}.roster span.m{display:none}.strip{height:19px}.days{height:20px}.strip>b,.strip>u{top:1px;height:8px}.strip>.n{top:9px;height:7px;line-height:7px;font-size:6.5px}.strip>s{top:16px;height:1.5px}.strip>s.x{top:17.5px}.roster th.c{width:34px}.roster th.s,.roster th.v,.roster th.f{width:26px}.sheet{break-after:page}section.big{column-span:all}section.big ol{columns:3}h1{font-size:14px}.key{margin:2px 0;font-size:8px}.key .strip{height:10px}header p{font-size:8px}}
+"#;
 
 /// What each bar and mark means.
-pub static LEGEND: [&[u8]; 9] = [
-    b"<ul class=\"key\">",
-    b"<li><span class=\"t\" style=\"--b:0;--g:1;--w:1\"><b>BOS04</b></span> trip, from report to release</li>",
-    b"<li><span class=\"f\" style=\"--b:0;--g:1;--w:1\"><b>F</b></span> fixed flight</li>",
-    b"<li><span class=\"g\" style=\"--b:0;--g:1;--w:1\"><b>G</b></span> ground duty</li>",
-    b"<li><span class=\"l\" style=\"--b:0;--g:1;--w:1\"><b>L</b></span> leave, which counts as days off</li>",
-    b"<li><i>&#9675;</i> day off</li>",
-    b"<li><span class=\"t o\" style=\"--b:0;--g:1;--w:1\"><b>BOS26</b></span> goes on after the month</li>",
-    b"<li><span class=\"m\"></span> where the credit stands between its limits</li>",
-    b"</ul>",
-];
+pub static LEGEND: &[u8] = br#"<ul class="key">
+<li><span class="strip"><b class="t" style="--a:0;--w:1"></b></span> trip, from report to release</li>
+<li><span class="strip"><b class="t o" style="--a:0;--w:1"></b></span> goes on after the month</li>
+<li><span class="strip"><b class="f" style="--a:0;--w:1"></b></span> fixed flight</li>
+<li><span class="strip"><b class="g" style="--a:0;--w:1"></b></span> ground duty</li>
+<li><span class="strip"><b class="l" style="--a:0;--w:1"></b></span> leave, which counts as days off</li>
+<li>&middot; day off</li>
+<li><span class="strip"><s class="y" style="--a:0;--w:1;top:.5rem"></s></span> trip or days, wanted and given</li>
+<li><span class="strip"><s class="x" style="--a:0;--w:1;top:.5rem"></s></span> wanted and not given</li>
+</ul>
+"#;

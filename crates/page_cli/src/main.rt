@@ -39,12 +39,25 @@ fn only_folder(rt: &(impl Env + AllocGlobal)) -> Result<Option<String>, AllocErr
     Ok(words.pop())
 }
 
+/// What the program was built from, where its script says so.
+fn built_from(rt: &(impl Env + AllocGlobal)) -> String {
+    match env::var(rt, "PBS_BUILT_FROM") {
+        Ok(built) => built,
+        Err(_) => String::new(rt.alloc()),
+    }
+}
+
 fn main(rt: HostRuntime) -> ExitCode {
     let mut out = OutSink::new(io::writer(&rt));
     let status = match only_folder(&rt) {
         Err(_) => Status::NoMemory,
         Ok(None) => run_usage(rt.alloc(), &mut out),
-        Ok(Some(folder)) => run(rt.alloc(), &mut FolderShelf::new(&rt, folder), &mut out),
+        Ok(Some(folder)) => run(
+            rt.alloc(),
+            &mut FolderShelf::new(&rt, folder),
+            &mut out,
+            built_from(&rt).as_bytes(),
+        ),
     };
     ExitCode::from(status.code())
 }

@@ -19,9 +19,9 @@ fn say<O: Sink>(found: Result<Ending, Memory>, out: &mut O) -> Status {
     }
 }
 
-/// Writes the page of the month on the shelf.
-pub fn run<S: Shelf, O: Sink>(alloc: Global, shelf: &mut S, out: &mut O) -> Status {
-    let end = page(alloc, shelf);
+/// Writes the page of the month on the shelf. `built` says what the program was built from, or nothing.
+pub fn run<S: Shelf, O: Sink>(alloc: Global, shelf: &mut S, out: &mut O, built: &[u8]) -> Status {
+    let end = page(alloc, shelf, built);
     say(ending_of(alloc, end), out)
 }
 

@@ -1,6 +1,6 @@
-use Rattle.month_page.specs.Escaping.{escaped}
-use Rattle.month_page.proofs.Escapes.{reads_escaped, reads_inert}
-use Rattle.month_page.proofs.escaping.put_escaped.Goals as goal
+use Rattle.page_parts.specs.Escaping.{escaped}
+use Rattle.page_parts.proofs.Escapes.{reads_escaped, reads_inert}
+use Rattle.page_parts.proofs.escaping.put_escaped.Goals as goal
 
 pub returns-in_err-put_escaped_byte-clause-inert : goal.returns-in_err-put_escaped_byte-clause-inert
 returns-in_err-put_escaped_byte-clause-inert c = reads_inert (escaped c.args.text.now) c.args.text.now (reads_escaped c.args.text.now)

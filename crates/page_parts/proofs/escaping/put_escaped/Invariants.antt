@@ -1,7 +1,7 @@
 use Rattle.std.proofs.Common.{◌≡◌, ◌++◌, drop}
 use Rattle.std.specs.List.{flat_map}
-use Rattle.month_page.specs.Escaping.{escaped_byte}
-use Rattle.month_page.proofs.escaping.put_escaped.Given as goal
+use Rattle.page_parts.specs.Escaping.{escaped_byte}
+use Rattle.page_parts.proofs.escaping.put_escaped.Given as goal
 
 abbrev pub invariant-loop-byte : goal.invariant-loop-byte
 invariant-loop-byte l = l.out ++ flat_map escaped_byte (drop l.byte-index l.text) ≡ l.fn.out ++ flat_map escaped_byte l.text

@@ -4,7 +4,7 @@ use Rattle.std.specs.List.{list_any, flat_map}
 use Rattle.std.proofs.lemmas.List.Folds.{list_any-append}
 use Rattle.std.proofs.lemmas.Bool.Decides.{nat_tests}
 use Rattle.std.proofs.lemmas.List.Concat.{flat_map-cons}
-use Rattle.month_page.specs.Escaping.{is_bound, is_special, IsReference, ampersand, less, greater, quote, apostrophe, Reads, nothing, itself, referred, escaped_byte, escaped}
+use Rattle.page_parts.specs.Escaping.{is_bound, is_special, IsReference, ampersand, less, greater, quote, apostrophe, Reads, nothing, itself, referred, escaped_byte, escaped}
 
 special_not : (b : ℕ) → (b == 38) ≡ false → (b == 60) ≡ false → (b == 62) ≡ false → (b == 34) ≡ false → (b == 39) ≡ false → is_special b ≡ false
 special_not b a l g q p = rw (a, l, g, q, p) refl

@@ -1,7 +1,7 @@
 //! Texts in a page.
 ghost use Rattle.std.specs.Prelude.{◌≡◌, ◌++◌, OnOk, false};
 ghost use Rattle.std.specs.List.{list_any};
-ghost use Rattle.month_page.specs.Escaping.{escaped_byte, escaped, is_bound, Reads};
+ghost use Rattle.page_parts.specs.Escaping.{escaped_byte, escaped, is_bound, Reads};
 
 use duty_calendar::{List, Memory};
 use field_text::put_bytes;

@@ -1,6 +1,6 @@
 //! A page as it is written.
 ghost use Rattle.std.specs.Prelude.{◌≡◌, ◌<◌, ◌++◌, [], OnOk};
-ghost use Rattle.month_page.specs.Escaping.{escaped};
+ghost use Rattle.page_parts.specs.Escaping.{escaped};
 
 use crate::escaping::put_escaped;
 use duty_calendar::{List, Memory};

@@ -1,0 +1,27 @@
+-- Which files a command of the desk writes in the month's folder: those that it names, and no other.
+use Rattle.std.specs.Prelude.{◌≡◌, List, ◌++◌, ℕ, Option, codes, string_bytes}
+use Rattle.shelf.specs.Files.{Files, SameButAt}
+use Rattle.desk_cli.specs.declared.words.DeskCommand.{DeskCommand}
+use Rattle.desk_cli.specs.declared.words.DeskCommand.TheVariants as command
+
+-- the file of the page of a pilot
+unfoldable pub pilot_file : List ℕ → List ℕ
+pilot_file name = (codes "pilot-" ++ name) ++ codes ".html"
+
+-- each file but these two has stayed
+pub record SameButAtTwo (first second : List ℕ) (old new : Option Files) : Type 0 where
+  pub between : Option Files
+  pub first_alone : SameButAt first old between
+  pub second_alone : SameButAt second between new
+
+abbrev pub Leaves : DeskCommand → Option Files → Option Files → Type 0
+Leaves (command.Explain line) old new = new ≡ old
+Leaves command.ExplainInput old new = new ≡ old
+Leaves command.Lint old new = new ≡ old
+Leaves command.Page old new = SameButAt (codes "month.html") old new
+Leaves (command.PilotPage name) old new = SameButAt (pilot_file (string_bytes name)) old new
+Leaves command.Packet old new = SameButAt (codes "packet.html") old new
+Leaves (command.Collect words) old new = new ≡ old
+Leaves command.Report old new = SameButAtTwo (codes "report.html") (codes "report.csv") old new
+Leaves command.Help old new = new ≡ old
+Leaves command.Usage old new = new ≡ old

@@ -1,0 +1,110 @@
+//! The command `collect`.
+ghost use Rattle.std.specs.Prelude.{◌≡◌, codes, IfOk, true};
+ghost use Rattle.shelf.specs.Files.{SameButAt};
+
+use crate::runner::say;
+use crate::status::DeskStatus;
+use crate::stops::say_stop;
+use crate::writing::put_file;
+use bid_sheets::{Collected, collect};
+use duty_calendar::Memory;
+use file_places::Prose;
+use month_files::{File, Unread, read_file};
+use month_page::PageStop;
+use shelf::{Shelf, Sink};
+use std::alloc::Global;
+
+/// Whether a text of bids lies in the folder, or something else in its place.
+fn is_taken<S: Shelf>(alloc: Global, shelf: &mut S) -> Result<bool, Memory>
+    ensures kept { S.holds shelf.new ≡ S.holds shelf.old }
+{
+    match read_file(alloc, shelf, File::Bids) {
+        Ok(_) => Ok(true),
+        Err(Unread::Missing(_)) => Ok(false),
+        Err(Unread::NoMemory) => Err(Memory::NoMemory),
+        Err(_) => Ok(true),
+    }
+}
+
+/// Appends that the text of bids that is there stays.
+fn say_taken(prose: &mut Prose) -> Result<DeskStatus, Memory> {
+    prose.say(b"bids.txt is there already; with --force it is written over\n")?;
+    Ok(DeskStatus::Faulty)
+}
+
+/// Appends that nothing was written.
+fn say_unsound(prose: &mut Prose) -> Result<DeskStatus, Memory> {
+    prose.say(b"nothing was written: mend what is named above\n")?;
+    Ok(DeskStatus::Faulty)
+}
+
+/// Writes the text of bids, where nothing is wrong with what was sent.
+#[tactic(auto, using(crate::proofs::Kept::same_kept))]
+fn put_collected<S: Shelf>(
+    alloc: Global,
+    shelf: &mut S,
+    prose: &mut Prose,
+    end: Result<Collected, PageStop>,
+) -> Result<DeskStatus, Memory>
+    ensures others { SameButAt (codes "bids.txt") (S.holds shelf.old) (S.holds shelf.new) }
+{
+    match end {
+        Ok(Collected { text: Some(text) }) => {
+            put_file(alloc, shelf, prose, "bids.txt", text.as_slice())
+        }
+        Ok(Collected { text: None }) => say_unsound(prose),
+        Err(stop) => say_stop(alloc, shelf, prose, &stop),
+    }
+}
+
+/// Makes the text of bids of what lies in the other folder.
+#[tactic(auto, using(crate::proofs::Kept::same_kept))]
+fn collect_all<S: Shelf, T: Shelf>(
+    alloc: Global,
+    shelf: &mut S,
+    sheets: &mut T,
+    prose: &mut Prose,
+    old: &[u8],
+    is_forced: bool,
+) -> Result<DeskStatus, Memory>
+    ensures others { SameButAt (codes "bids.txt") (S.holds shelf.old) (S.holds shelf.new) }
+    ensures sheets { T.holds sheets.new ≡ T.holds sheets.old }
+{
+    if !is_forced && is_taken(alloc, shelf)? {
+        return say_taken(prose);
+    }
+    let end = collect(alloc, shelf, sheets, prose, old);
+    put_collected(alloc, shelf, prose, end)
+}
+
+/// The text of bids in another folder; nothing where there is no folder.
+fn old_bids<S: Shelf>(alloc: Global, standing: Option<&mut S>) -> Result<Vec<u8>, Unread> {
+    match standing {
+        Some(shelf) => read_file(alloc, shelf, File::Bids),
+        None => Ok(Vec::new(alloc)),
+    }
+}
+
+/// Makes the text of bids of what lies in the folder `sheets`, with the bids in the folder `standing` for those who sent
+/// nothing, and puts what is said of it. No file but `bids.txt` changes.
+#[tactic(auto, using(crate::proofs::Kept::same_kept))]
+pub fn run_collect<S: Shelf, O: Sink>(
+    alloc: Global,
+    shelf: &mut S,
+    sheets: &mut S,
+    standing: Option<&mut S>,
+    out: &mut O,
+    is_forced: bool,
+) -> DeskStatus
+    ensures others { SameButAt (codes "bids.txt") (S.holds shelf.old) (S.holds shelf.new) }
+    ensures sheets { S.holds sheets.new ≡ S.holds sheets.old }
+{
+    let mut prose = Prose::new(alloc);
+    let Ok(old) = old_bids(alloc, standing) else {
+        return DeskStatus::Faulty;
+    };
+    match collect_all(alloc, shelf, sheets, &mut prose, &old, is_forced) {
+        Ok(status) => say(out, &prose, status),
+        Err(Memory::NoMemory) => DeskStatus::NoMemory,
+    }
+}
