@@ -1,7 +1,10 @@
 -- Files that no command writes.
 use Rattle.std.proofs.Common.{◌≡◌, ℕ, List, Option, refl, subst, sym}
 use Rattle.shelf.specs.Files.{Files, SameButAt}
-use Rattle.desk_cli.specs.DeskFiles.{SameButAtTwo}
+use Rattle.month_files.specs.declared.file.File.{File}
+use Rattle.month_files.specs.declared.file.File.TheVariants.{Rules}
+use Rattle.month_files.specs.FileNames.{name_of}
+use Rattle.desk_cli.specs.DeskFiles.{SameButAtTwo, SameButOne}
 
 same_refl : (name : List ℕ) (files : Option Files) → SameButAt name files files
 same_refl name files = record { tells = refl; others = λ other e. refl }
@@ -18,3 +21,9 @@ same_first first second old new h = record { between = new; first_alone = h; sec
 
 pub same_both : (first second : List ℕ) (old between new : Option Files) → SameButAt first old between → SameButAt second between new → SameButAtTwo first second old new
 same_both first second old between new h k = record { between = between; first_alone = h; second_alone = k }
+
+pub one_kept : (old new : Option Files) → new ≡ old → SameButOne old new
+one_kept old new e = record { file = Rules; others = same_kept (name_of Rules) old new e }
+
+pub one_file : (f : File) (old new : Option Files) → SameButAt (name_of f) old new → SameButOne old new
+one_file f old new h = record { file = f; others = h }

@@ -119,7 +119,9 @@ pub fn latest<'a>(events: &[Earlier<'a>], uid: &[u8]) -> Option<Earlier<'a>> {
 
 /// Whether a line says what is said anew of a cancelled event.
 fn is_anew(line: &[u8]) -> bool {
-    line.starts_with(b"SEQUENCE:") || line.starts_with(b"STATUS:") || line == b"END:VEVENT".as_slice()
+    line.starts_with(b"SEQUENCE:")
+        || line.starts_with(b"STATUS:")
+        || line == b"END:VEVENT".as_slice()
 }
 
 /// Appends an event that is cancelled under this number.

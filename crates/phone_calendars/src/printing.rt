@@ -18,12 +18,7 @@ pub fn date_number(horizon: &Horizon, day: u32) -> u32 {
 }
 
 /// Appends a property that is a text.
-pub fn put_text(
-    alloc: Global,
-    out: &mut List<u8>,
-    head: &[u8],
-    text: &[u8],
-) -> Result<(), Memory> {
+pub fn put_text(alloc: Global, out: &mut List<u8>, head: &[u8], text: &[u8]) -> Result<(), Memory> {
     let mut line = List::new(alloc);
     put_bytes(&mut line, head)?;
     put_value(&mut line, text)?;
@@ -31,12 +26,7 @@ pub fn put_text(
 }
 
 /// Appends a property that is a number.
-pub fn put_count(
-    alloc: Global,
-    out: &mut List<u8>,
-    head: &[u8],
-    value: u32,
-) -> Result<(), Memory> {
+pub fn put_count(alloc: Global, out: &mut List<u8>, head: &[u8], value: u32) -> Result<(), Memory> {
     let mut line = List::new(alloc);
     put_bytes(&mut line, head)?;
     put_number(&mut line, value)?;

@@ -65,9 +65,7 @@ fn add_fixed(
             start: event.report,
             stop: event.release,
         })?;
-        events
-            .list
-            .push(fixed_event(alloc, owner, before, event)?)?;
+        events.list.push(fixed_event(alloc, owner, before, event)?)?;
     }
     Ok(())
 }

@@ -43,12 +43,7 @@ fn title_of(alloc: Global, trip: &Pairing) -> Result<Prose, Memory> {
 }
 
 /// Appends a flight.
-fn put_flight(
-    prose: &mut Prose,
-    horizon: &Horizon,
-    leg: &Leg,
-    day: u32,
-) -> Result<(), Memory> {
+fn put_flight(prose: &mut Prose, horizon: &Horizon, leg: &Leg, day: u32) -> Result<(), Memory> {
     prose.text(&leg.from.bytes())?;
     prose.say(b"-")?;
     prose.text(&leg.to.bytes())?;
@@ -60,12 +55,7 @@ fn put_flight(
 }
 
 /// Appends the flights of a duty.
-fn put_flights(
-    prose: &mut Prose,
-    horizon: &Horizon,
-    duty: &Duty,
-    day: u32,
-) -> Result<(), Memory> {
+fn put_flights(prose: &mut Prose, horizon: &Horizon, duty: &Duty, day: u32) -> Result<(), Memory> {
     for leg in duty.legs.as_slice() {
         put_flight(prose, horizon, leg, day)?;
     }
@@ -85,12 +75,7 @@ fn put_layover(prose: &mut Prose, duty: &Duty) -> Result<(), Memory> {
 }
 
 /// Appends a duty by number, from 1.
-fn put_duty(
-    prose: &mut Prose,
-    horizon: &Horizon,
-    number: u64,
-    duty: &Duty,
-) -> Result<(), Memory> {
+fn put_duty(prose: &mut Prose, horizon: &Horizon, number: u64, duty: &Duty) -> Result<(), Memory> {
     let day = duty.report / 1440;
     prose.say(b"Duty ")?;
     prose.number(number)?;

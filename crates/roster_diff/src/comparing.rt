@@ -82,7 +82,11 @@ fn member_named(problem: &Problem, name: &[u8]) -> Option<u32>
     ensures known { IfSome result (λ m. m < length problem.now.base.members) }
 {
     for member in 0..problem.base.members.len() as u32 {
-        if problem.base.members.as_slice()[member as usize].name.bytes() == name {
+        if problem.base.members.as_slice()[member as usize]
+            .name
+            .bytes()
+            == name
+        {
             return Some(member);
         }
     }
@@ -116,12 +120,7 @@ fn add(list: &mut Vec<Difference>, found: Difference) -> Result<(), AllocError> 
 
 /// A member by number of a month, as the pilot who is compared: one who does not stand in the other month too has this
 /// standing.
-fn pilot_at<'a>(
-    problem: &'a Problem,
-    member: u32,
-    other: &Problem,
-    absent: Standing,
-) -> Pilot<'a>
+fn pilot_at<'a>(problem: &'a Problem, member: u32, other: &Problem, absent: Standing) -> Pilot<'a>
     requires member { member < length problem.now.base.members }
 {
     let name = problem.base.members.as_slice()[member as usize]

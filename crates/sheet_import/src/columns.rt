@@ -27,7 +27,9 @@ pub fn column_of(word: &[u8]) -> Column {
 
 /// Whether the name of a sheet has a word in it.
 fn has_word(sheet: &[u8], word: &[u8]) -> bool {
-    sheet.windows(word.len()).any(|part| part.eq_ignore_ascii_case(word))
+    sheet
+        .windows(word.len())
+        .any(|part| part.eq_ignore_ascii_case(word))
 }
 
 /// Which of the two files with the same head a sheet is for, by its name.

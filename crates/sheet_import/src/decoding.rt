@@ -64,11 +64,7 @@ fn plain_text(alloc: Global, bytes: &[u8]) -> Result<Option<String>, Memory> {
 }
 
 /// The text of a sheet in UTF-8 or, behind a byte order mark, in UTF-16; nothing where it is neither. What is changed is said.
-pub fn decoded(
-    alloc: Global,
-    prose: &mut Prose,
-    bytes: &[u8],
-) -> Result<Option<String>, Memory> {
+pub fn decoded(alloc: Global, prose: &mut Prose, bytes: &[u8]) -> Result<Option<String>, Memory> {
     if let Some(rest) = bytes.strip_prefix(&[0xFF, 0xFE]) {
         prose.say(b"from UTF-16 to UTF-8\n")?;
         return wide_text(alloc, rest, Order::Little);

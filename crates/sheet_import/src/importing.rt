@@ -19,6 +19,7 @@ pub struct Imported {
 }
 
 /// What the rows of a sheet are read by: its head and the names of the staff.
+#[derive(Clone, Copy)]
 struct Sheet<'a> {
     head: &'a ByteRecord,
     names: &'a StaffNames,
@@ -97,7 +98,9 @@ fn take_field(
     if field.is_unsure {
         put_place(prose, number, cell(sheet.head, place))?;
         prose.text(given)?;
-        prose.say(b" may be several days, or has no time: write 2026-06-02 10:00 or 02.06.2026 10:00\n")?;
+        prose.say(
+            b" may be several days, or has no time: write 2026-06-02 10:00 or 02.06.2026 10:00\n",
+        )?;
         return Ok(Course::Unsure);
     }
     if field.text.as_slice() != given {
@@ -182,6 +185,19 @@ fn has_blanks(row: &ByteRecord) -> bool {
     false
 }
 
+/// Whether a row has a capital letter.
+fn has_capitals(row: &ByteRecord) -> bool {
+    for place in 0..row.len() {
+        if cell(row, place)
+            .iter()
+            .any(|byte| byte.is_ascii_uppercase())
+        {
+            return true;
+        }
+    }
+    false
+}
+
 /// Says what is changed in all rows alike.
 fn say_alike(
     prose: &mut Prose,
@@ -206,7 +222,9 @@ fn file_of(prose: &mut Prose, head: &[u8], sheet: &[u8]) -> Result<Option<FileNa
     match head_of(head, sheet) {
         Head::Of(file) => Ok(Some(file)),
         Head::Unsure => {
-            prose.say(b"history.csv and fixed.csv have this head: let the name of the sheet have history or fixed in it\n")?;
+            prose.say(
+                b"history.csv and fixed.csv have this head: let the name of the sheet have history or fixed in it\n",
+            )?;
             Ok(None)
         }
         Head::Unknown => {
@@ -230,6 +248,9 @@ fn imported(
         prose.say(b"the sheet is empty\n")?;
         return Ok(None);
     };
+    if has_capitals(head) {
+        prose.say(b"the head is in small letters now\n")?;
+    }
     let mut bytes = head_text(alloc, head)?;
     let Some(file) = file_of(prose, bytes.as_slice(), name)? else {
         return Ok(None);
