@@ -83,12 +83,7 @@ fn put_unread(prose: &mut Prose, name: &[u8]) -> Result<(), Memory> {
 }
 
 /// Says each fault of what a pilot sent.
-fn put_faults(
-    prose: &mut Prose,
-    name: &[u8],
-    sent: &[u8],
-    read: &Read,
-) -> Result<(), Memory> {
+fn put_faults(prose: &mut Prose, name: &[u8], sent: &[u8], read: &Read) -> Result<(), Memory> {
     for fault in &read.faults {
         put_fault(prose, name, sent, fault)?;
     }

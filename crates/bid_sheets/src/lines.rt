@@ -24,9 +24,7 @@ pub fn split_line(text: &[u8]) -> Split<'_> {
 
 /// A line without the blanks before its first word.
 fn unindented(line: &[u8]) -> &[u8] {
-    let start = line
-        .iter()
-        .position(|byte| !matches!(*byte, b' ' | b'\t'));
+    let start = line.iter().position(|byte| !matches!(*byte, b' ' | b'\t'));
     line.get(start.unwrap_or(line.len())..).unwrap_or(&[])
 }
 
@@ -41,7 +39,9 @@ pub fn first_word(line: &[u8]) -> &[u8] {
 
 /// What stands behind the first word of a line.
 pub fn behind_word(line: &[u8]) -> &[u8] {
-    unindented(line).get(first_word(line).len()..).unwrap_or(&[])
+    unindented(line)
+        .get(first_word(line).len()..)
+        .unwrap_or(&[])
 }
 
 /// The name in a line that names a member; nothing where it is another line.

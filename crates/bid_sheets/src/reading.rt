@@ -20,11 +20,7 @@ pub struct Read {
 }
 
 /// How many bids a text has, or its first fault. Nothing where it is too long to be read.
-fn count_bids(
-    alloc: Global,
-    problem: &Problem,
-    text: &[u8],
-) -> Option<Result<u32, BidFault>> {
+fn count_bids(alloc: Global, problem: &Problem, text: &[u8]) -> Option<Result<u32, BidFault>> {
     if text.len() > LONGEST {
         return None;
     }
@@ -33,7 +29,7 @@ fn count_bids(
         Ok(lists) => {
             let mut count: u32 = 0;
             for list in lists.as_slice() {
-                count = count.saturating_add(list.len() as u32);
+                count = count.saturating_add(u32::try_from(list.len()).unwrap_or(u32::MAX));
             }
             Some(Ok(count))
         }

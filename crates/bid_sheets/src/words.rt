@@ -40,12 +40,7 @@ pub fn put_fault(
 }
 
 /// Appends that a line of what a pilot sent names another pilot.
-pub fn put_foreign(
-    prose: &mut Prose,
-    name: &[u8],
-    sent: &[u8],
-    number: u64,
-) -> Result<(), Memory> {
+pub fn put_foreign(prose: &mut Prose, name: &[u8], sent: &[u8], number: u64) -> Result<(), Memory> {
     let place = line_place(sent, number, 1);
     put_head(prose, name, &place)?;
     prose.say(b"a file has the bids of the pilot whose name it has, and no others\n")?;

@@ -1,10 +1,10 @@
--- Files that no command writes.
-use Rattle.std.proofs.Common.{◌≡◌, ℕ, List, Option, refl, subst, sym}
+-- Files that a command leaves as they were.
+use Rattle.std.proofs.Common.{◌≡◌, ℕ, List, Option, Err, refl, subst, sym, ◌∙◌}
 use Rattle.shelf.specs.Files.{Files, SameButAt}
-use Rattle.month_files.specs.declared.file.File.{File}
-use Rattle.month_files.specs.declared.file.File.TheVariants.{Rules}
-use Rattle.month_files.specs.FileNames.{name_of}
-use Rattle.desk_cli.specs.DeskFiles.{SameButAtTwo, SameButOne}
+use Rattle.month_page.specs.PageEnds.{PageLeaves, page_name}
+use Rattle.month_page.specs.declared.page_stop.PageStop.{PageStop}
+use Rattle.month_page.specs.declared.page_stop.PageStop.TheVariants as stop
+use Rattle.desk_cli.specs.DeskFiles.{SameButAtTwo}
 
 same_refl : (name : List ℕ) (files : Option Files) → SameButAt name files files
 same_refl name files = record { tells = refl; others = λ other e. refl }
@@ -22,8 +22,11 @@ same_first first second old new h = record { between = new; first_alone = h; sec
 pub same_both : (first second : List ℕ) (old between new : Option Files) → SameButAt first old between → SameButAt second between new → SameButAtTwo first second old new
 same_both first second old between new h k = record { between = between; first_alone = h; second_alone = k }
 
-pub one_kept : (old new : Option Files) → new ≡ old → SameButOne old new
-one_kept old new e = record { file = Rules; others = same_kept (name_of Rules) old new e }
-
-pub one_file : (f : File) (old new : Option Files) → SameButAt (name_of f) old new → SameButOne old new
-one_file f old new h = record { file = f; others = h }
+-- a page that is not written, and what is said of it
+pub page_kept : (old between new : Option Files) (why : PageStop) → PageLeaves old between (Err why) → new ≡ between → SameButAt page_name old new
+page_kept old between new (stop.Unread why) h e = same_kept page_name old new (e ∙ h)
+page_kept old between new (stop.BadInput why) h e = same_kept page_name old new (e ∙ h)
+page_kept old between new (stop.Roster fault) h e = same_kept page_name old new (e ∙ h)
+page_kept old between new (stop.Reasons fault) h e = same_kept page_name old new (e ∙ h)
+page_kept old between new (stop.Unwritten why) h e = subst (λ (o : Option Files). SameButAt page_name old o) (sym e) h
+page_kept old between new stop.NoMemory h e = same_kept page_name old new (e ∙ h)

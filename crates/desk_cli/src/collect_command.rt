@@ -85,6 +85,15 @@ fn old_bids<S: Shelf>(alloc: Global, standing: Option<&mut S>) -> Result<Vec<u8>
     }
 }
 
+/// Puts that no bids stand.
+fn say_no_old<O: Sink>(alloc: Global, out: &mut O) -> DeskStatus {
+    let mut prose = Prose::new(alloc);
+    match prose.say(b"the folder behind --standing has no bids.txt that can be read\n") {
+        Ok(()) => say(out, &prose, DeskStatus::Faulty),
+        Err(Memory::NoMemory) => DeskStatus::NoMemory,
+    }
+}
+
 /// Makes the text of bids of what lies in the folder `sheets`, with the bids in the folder `standing` for those who sent
 /// nothing, and puts what is said of it. No file but `bids.txt` changes.
 #[tactic(auto, using(crate::proofs::Kept::same_kept))]
@@ -101,7 +110,7 @@ pub fn run_collect<S: Shelf, O: Sink>(
 {
     let mut prose = Prose::new(alloc);
     let Ok(old) = old_bids(alloc, standing) else {
-        return DeskStatus::Faulty;
+        return say_no_old(alloc, out);
     };
     match collect_all(alloc, shelf, sheets, &mut prose, &old, is_forced) {
         Ok(status) => say(out, &prose, status),

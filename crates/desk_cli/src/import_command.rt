@@ -39,7 +39,7 @@ fn is_there<S: Shelf>(alloc: Global, shelf: &mut S, file: File) -> Result<bool, 
 }
 
 /// Writes a file, over one that is there only where that is asked for, and appends what became of it.
-#[tactic(auto, using(crate::proofs::Kept::one_kept, crate::proofs::Kept::one_file))]
+#[tactic(auto, using(crate::proofs::One::one_kept, crate::proofs::One::one_file))]
 fn write_file<S: Shelf>(
     alloc: Global,
     shelf: &mut S,
@@ -58,7 +58,7 @@ fn write_file<S: Shelf>(
 }
 
 /// Makes a file of the month of the sheet of a name in another folder, and appends each change.
-#[tactic(auto, using(crate::proofs::Kept::one_kept))]
+#[tactic(auto, using(crate::proofs::One::one_kept))]
 fn say_import<S: Shelf, T: Shelf>(
     alloc: Global,
     shelf: &mut S,
@@ -92,7 +92,7 @@ fn say_import<S: Shelf, T: Shelf>(
 }
 
 /// Makes a file of the month of the sheet of a name in another folder, and says each change. No other file changes.
-#[tactic(auto, using(crate::proofs::Kept::one_kept))]
+#[tactic(auto, using(crate::proofs::One::one_kept))]
 pub fn run_import<S: Shelf, T: Shelf, O: Sink>(
     alloc: Global,
     shelf: &mut S,

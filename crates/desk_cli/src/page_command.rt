@@ -21,7 +21,7 @@ fn say_page(prose: &mut Prose, members: u32) -> Result<DeskStatus, Memory> {
 }
 
 /// Writes the page of the month.
-#[tactic(auto, using(crate::proofs::Kept::same_kept))]
+#[tactic(auto, using(crate::proofs::Kept::page_kept))]
 pub fn run_page<S: Shelf>(
     alloc: Global,
     shelf: &mut S,

@@ -1,6 +1,7 @@
 //! The calendar of the packet: a day of the month after the other, with the trips that report on it.
 
 use duty_calendar::{Base, Memory, Pairing};
+use month_page::counted;
 use page_parts::{FIRST_DAY, Html, is_weekend, put_date};
 use roster_model::pairing_span;
 
@@ -22,7 +23,7 @@ fn put_link(html: &mut Html, number: u32, pairing: &Pairing) -> Result<(), Memor
 fn put_links(html: &mut Html, pairings: &[Pairing], day: u32) -> Result<(), Memory> {
     for (number, pairing) in pairings.iter().enumerate() {
         if reports_on(pairing, day) {
-            put_link(html, number as u32, pairing)?;
+            put_link(html, counted(number), pairing)?;
         }
     }
     Ok(())
@@ -43,7 +44,9 @@ fn put_day(html: &mut Html, base: &Base, day: u32) -> Result<(), Memory> {
 
 /// Appends the calendar.
 pub fn put_calendar(html: &mut Html, base: &Base) -> Result<(), Memory> {
-    html.markup(b"<h2 id=\"days\">Trips by the day of their report</h2>\n<ul class=\"calendar\">\n")?;
+    html.markup(
+        b"<h2 id=\"days\">Trips by the day of their report</h2>\n<ul class=\"calendar\">\n",
+    )?;
     for day in 0..base.rules.horizon.days() {
         put_day(html, base, FIRST_DAY + day)?;
     }

@@ -4,8 +4,8 @@
 
 mod crew;
 mod days;
-mod packet;
+mod printing;
 mod sheet;
 mod trips;
 
-pub use packet::packet;
+pub use printing::packet;

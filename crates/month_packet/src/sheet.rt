@@ -5,7 +5,7 @@ pub static FORM: &[u8] = br#"<h2 id="bids">Your bids</h2>
 <p>A bid is a weight from 1 to 1000 and a wish: <code>20 fly TRIP</code>, <code>10 off 2026-06-06 to 2026-06-09</code>, <code>5 avoid layover FCO</code>, <code>5 prefer 2 weekday SUN and not days 1</code>, <code>3 credit below 75:00</code>, <code>3 daysoff 12</code>. Send your lines, at most 64, as a file of your name: <code>NAME.txt</code>.</p>
 <form id="sheet" hidden>
 <p><label>I am <select id="me"><option value="">..</option></select></label></p>
-<p><label>Weight <input id="weight" value="10" size="4" inputmode="numeric"></label>
+<p><label>Weight <input id="weight" value="10" size="4"></label>
 <label>Wish <select id="wish"><option>fly</option><option>avoid</option><option>prefer</option><option>off</option><option>credit below</option><option>credit above</option><option>daysoff</option></select></label>
 <span id="values"></span></p>
 <p id="tests"></p>
@@ -112,7 +112,8 @@ pub static SHEET: &[u8] = br##"<script>
 "##;
 
 /// The rules of the packet alone.
-pub static STYLE: &[u8] = br#".calendar{display:grid;grid-template-columns:repeat(auto-fill,minmax(min(9rem,45%),1fr));gap:.3rem;padding:0;list-style:none;font-size:.8rem}
+pub static STYLE: &[u8] =
+    br#".calendar{display:grid;grid-template-columns:repeat(auto-fill,minmax(min(9rem,45%),1fr));gap:.3rem;padding:0;list-style:none;font-size:.8rem}
 .calendar li{border:1px solid var(--rule);padding:.2rem .4rem;overflow-wrap:anywhere}
 .calendar .w{background:var(--shade)}
 tr.touched>*{background:var(--mark)}

@@ -1,7 +1,7 @@
 //! The trips of the packet. What the tests of bids look at stands in each row as data, for the script.
 
 use duty_calendar::{Base, Duty, Horizon, Leg, Memory, Pairing, Station, Weekday};
-use month_page::{days_of, put_cells, put_trips_head};
+use month_page::{counted, days_of, put_cells, put_trips_head};
 use page_parts::Html;
 use roster_model::pairing_span;
 
@@ -51,12 +51,7 @@ fn weekday_word(weekday: Weekday) -> &'static [u8] {
 }
 
 /// Appends the words of the days of the week from a day on, so many.
-fn put_weekdays(
-    html: &mut Html,
-    horizon: &Horizon,
-    first: u32,
-    count: u32,
-) -> Result<(), Memory> {
+fn put_weekdays(html: &mut Html, horizon: &Horizon, first: u32, count: u32) -> Result<(), Memory> {
     for day in 0..count.min(7) {
         let day = first.saturating_add(day).min(372 + horizon.days());
         html.markup(weekday_word(horizon.weekday(day)))?;
@@ -148,9 +143,11 @@ fn put_trip(
 pub fn put_trips(html: &mut Html, base: &Base) -> Result<(), Memory> {
     html.markup(b"<h2 id=\"trips\">Trips</h2>\n")?;
     put_trips_head(html)?;
-    html.markup(b"<th scope=\"col\" class=\"k\">Layovers</th><th scope=\"col\" class=\"k r\" title=\"duties with a minute from 02:00 to 05:59\">Nights</th><th scope=\"col\" class=\"k r\">Pilots</th></tr></thead>\n<tbody id=\"list\">\n")?;
+    html.markup(
+        b"<th scope=\"col\" class=\"k\">Layovers</th><th scope=\"col\" class=\"k r\" title=\"duties with a minute from 02:00 to 05:59\">Nights</th><th scope=\"col\" class=\"k r\">Pilots</th></tr></thead>\n<tbody id=\"list\">\n",
+    )?;
     for (number, pairing) in base.pairings.as_slice().iter().enumerate() {
-        put_trip(html, &base.rules.horizon, number as u32, pairing)?;
+        put_trip(html, &base.rules.horizon, counted(number), pairing)?;
     }
     html.markup(b"</tbody></table></div>\n")
 }

@@ -23,11 +23,7 @@ fn put_entry(html: &mut Html, horizon: &Horizon, entry: &Entry) -> Result<(), Me
 }
 
 /// Appends the trips and the fixed events of a pilot.
-pub fn put_entries(
-    html: &mut Html,
-    horizon: &Horizon,
-    entries: &[Entry],
-) -> Result<(), Memory> {
+pub fn put_entries(html: &mut Html, horizon: &Horizon, entries: &[Entry]) -> Result<(), Memory> {
     if entries.is_empty() {
         return html.markup(b"<p>No trips.</p>\n");
     }

@@ -1,5 +1,6 @@
 //! The charts of the page: how much of their bids pilots got, where their credit stands, and why bids were denied.
 
+use crate::counting::counted;
 use crate::pilot::Pilot;
 use duty_calendar::Memory;
 use page_parts::{Bar, Html, put_bars, put_dots};
@@ -78,7 +79,7 @@ pub fn count_denied(pilots: &[Pilot], ground: Ground) -> u32 {
 pub fn count_bids(pilots: &[Pilot]) -> u32 {
     let mut count: u32 = 0;
     for pilot in pilots {
-        count = count.saturating_add(pilot.bids.len() as u32);
+        count = count.saturating_add(counted(pilot.bids.len()));
     }
     count
 }
@@ -141,10 +142,22 @@ fn put_grounds(html: &mut Html, pilots: &[Pilot]) -> Result<(), Memory> {
 
 /// Appends the charts.
 pub fn put_charts(alloc: Global, html: &mut Html, pilots: &[Pilot]) -> Result<(), Memory> {
-    html.markup(b"<h2 id=\"charts\">Charts</h2>\n<figure><figcaption>Granted weight over the weight of all bids, a column a pilot, the most senior at the left</figcaption>\n")?;
-    put_bars(html, b"Granted weight over bid weight by seniority", &weights(alloc, pilots)?)?;
-    html.markup(b"</figure>\n<figure><figcaption>Credit between its limits, the least at the foot (minutes above it)</figcaption>\n")?;
-    put_dots(html, b"Credit within its limits by seniority", &credits(alloc, pilots)?)?;
+    html.markup(
+        b"<h2 id=\"charts\">Charts</h2>\n<figure><figcaption>Granted weight over the weight of all bids, a column a pilot, the most senior at the left</figcaption>\n",
+    )?;
+    put_bars(
+        html,
+        b"Granted weight over bid weight by seniority",
+        &weights(alloc, pilots)?,
+    )?;
+    html.markup(
+        b"</figure>\n<figure><figcaption>Credit between its limits, the least at the foot (minutes above it)</figcaption>\n",
+    )?;
+    put_dots(
+        html,
+        b"Credit within its limits by seniority",
+        &credits(alloc, pilots)?,
+    )?;
     html.markup(b"</figure>\n<figure><figcaption>Denied bids by cause, ")?;
     html.number(count_bids(pilots))?;
     html.markup(b" bids in all</figcaption>\n")?;

@@ -54,7 +54,9 @@ fn put_month_style(html: &mut Html, base: &Base) -> Result<(), Memory> {
     html.number(1440 * horizon.days())?;
     html.markup(b";--n:")?;
     html.number(longest_name(base.members.as_slice()))?;
-    html.markup(b"}\n.strip{background:repeating-linear-gradient(90deg,var(--rule) 0 1px,#0000 0 calc(100%/")?;
+    html.markup(
+        b"}\n.strip{background:repeating-linear-gradient(90deg,var(--rule) 0 1px,#0000 0 calc(100%/",
+    )?;
     html.number(horizon.days())?;
     html.markup(b")),\n")?;
     put_shades(html, horizon)?;
@@ -64,7 +66,9 @@ fn put_month_style(html: &mut Html, base: &Base) -> Result<(), Memory> {
 /// Appends the head of a document about a month, up to its title's end.
 pub fn put_document(html: &mut Html, rules: &Rules) -> Result<(), Memory> {
     html.markup(b"<!DOCTYPE html>\n<html lang=\"en\">\n<head>\n<meta charset=\"utf-8\">\n")?;
-    html.markup(b"<meta name=\"viewport\" content=\"width=device-width, initial-scale=1\">\n<title>")?;
+    html.markup(
+        b"<meta name=\"viewport\" content=\"width=device-width, initial-scale=1\">\n<title>",
+    )?;
     put_title(html, rules)
 }
 
@@ -105,5 +109,7 @@ pub fn put_heading(html: &mut Html, base: &Base) -> Result<(), Memory> {
     html.count(base.pairings.len())?;
     html.markup(b" trips. ")?;
     put_clock(html, &base.rules.horizon)?;
-    html.markup(b"</p>\n<nav class=\"tool\"><a href=\"#cards\">Lines and bids</a><a href=\"#trips\">Trips</a><a href=\"#open\">Open trips</a><a href=\"#charts\">Charts</a><span id=\"search\"></span></nav>\n</header>\n")
+    html.markup(
+        b"</p>\n<nav class=\"tool\"><a href=\"#cards\">Lines and bids</a><a href=\"#trips\">Trips</a><a href=\"#open\">Open trips</a><a href=\"#charts\">Charts</a><span id=\"search\"></span></nav>\n</header>\n",
+    )
 }

@@ -88,11 +88,29 @@ fn put_offers(
 {
     let base = &problem.base;
     let gifts = gifts_of(alloc, problem, roster, member)?;
-    put_list(html, base, member, b"Trips that somebody else could take", &gifts)?;
+    put_list(
+        html,
+        base,
+        member,
+        b"Trips that somebody else could take",
+        &gifts,
+    )?;
     let takes = takes_of(alloc, problem, roster, member)?;
-    put_list(html, base, member, b"Trips of others that you could take", &takes)?;
+    put_list(
+        html,
+        base,
+        member,
+        b"Trips of others that you could take",
+        &takes,
+    )?;
     let swaps = swaps_of(alloc, problem, roster, member)?;
-    put_list(html, base, member, b"Swaps that would be legal for both", &swaps)
+    put_list(
+        html,
+        base,
+        member,
+        b"Swaps that would be legal for both",
+        &swaps,
+    )
 }
 
 /// Appends what a member could trade today.
@@ -106,7 +124,9 @@ pub fn put_trades(
     requires lines { length roster.now ≡ length problem.now.base.members }
     requires in_range { All (All (λ p. p < length problem.now.base.pairings)) roster.now }
 {
-    html.markup(b"<h2>Trades</h2>\n<p>What <code>pbs FOLDER trade</code> would take today, each by itself. Whether the other pilot agrees is another matter.</p>\n")?;
+    html.markup(
+        b"<h2>Trades</h2>\n<p>What <code>pbs FOLDER trade</code> would take today, each by itself. Whether the other pilot agrees is another matter.</p>\n",
+    )?;
     if is_complete(alloc, problem, roster)? {
         return put_offers(alloc, html, problem, roster, member);
     }

@@ -120,7 +120,7 @@ fn seen_bids(
 }
 
 /// A member.
-fn member_at(problem: &Problem, member: u32) -> &Member
+pub fn member_at(problem: &Problem, member: u32) -> &Member
     requires member { member < length problem.now.base.members }
 {
     &problem.base.members.as_slice()[member as usize]

@@ -17,10 +17,18 @@ use std::alloc::Global;
 
 /// Appends the head of the roster's table.
 fn put_table_head(html: &mut Html, rules: &Rules) -> Result<(), Memory> {
-    html.markup(b"<table class=\"roster sort\" aria-label=\"Roster\">\n<thead><tr>\n<th scope=\"col\" class=\"n k\">Pilot</th>\n")?;
-    html.markup(b"<th scope=\"col\" class=\"c r k\">Credit</th>\n<th scope=\"col\" class=\"s r k\">Score</th>\n")?;
-    html.markup(b"<th scope=\"col\" class=\"v r k\" title=\"bids granted and denied\">Bids<br>yes / no</th>\n")?;
-    html.markup(b"<th scope=\"col\" class=\"f r k\">Days<br>off</th>\n<th scope=\"col\" class=\"l\">")?;
+    html.markup(
+        b"<table class=\"roster sort\" aria-label=\"Roster\">\n<thead><tr>\n<th scope=\"col\" class=\"n k\">Pilot</th>\n",
+    )?;
+    html.markup(
+        b"<th scope=\"col\" class=\"c r k\">Credit</th>\n<th scope=\"col\" class=\"s r k\">Score</th>\n",
+    )?;
+    html.markup(
+        b"<th scope=\"col\" class=\"v r k\" title=\"bids granted and denied\">Bids<br>yes / no</th>\n",
+    )?;
+    html.markup(
+        b"<th scope=\"col\" class=\"f r k\">Days<br>off</th>\n<th scope=\"col\" class=\"l\">",
+    )?;
     put_day_heads(html, &rules.horizon)?;
     html.markup(b"</th>\n</tr></thead>\n<tbody>\n")
 }
@@ -57,7 +65,9 @@ pub fn print_page(
     put_trips(&mut html, &problem.base, &pilots)?;
     put_open(&mut html, &problem.base, &pilots)?;
     put_charts(alloc, &mut html, &pilots)?;
-    html.markup(b"<p>This page shows what stands in the files of a folder. Whether that is the award is what <code>pbs FOLDER check</code> says.</p>\n")?;
+    html.markup(
+        b"<p>This page shows what stands in the files of a folder. Whether that is the award is what <code>pbs FOLDER check</code> says.</p>\n",
+    )?;
     html.markup(SCRIPT)?;
     put_foot(alloc, &mut html, sums, built)?;
     Ok(html.into_bytes())

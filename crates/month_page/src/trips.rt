@@ -1,5 +1,6 @@
 //! The trips of the month: who flies them, and which are open.
 
+use crate::counting::counted;
 use crate::pilot::Pilot;
 use crate::route::put_route;
 use duty_calendar::{Base, Horizon, Interval, Memory, Pairing};
@@ -82,9 +83,15 @@ pub fn put_cells(html: &mut Html, horizon: &Horizon, pairing: &Pairing) -> Resul
 
 /// Appends the head of a table of trips, up to the columns that differ.
 pub fn put_trips_head(html: &mut Html) -> Result<(), Memory> {
-    html.markup(b"<div class=\"wide\"><table class=\"list sort\">\n<thead><tr><th scope=\"col\" class=\"k\">Trip</th>")?;
-    html.markup(b"<th scope=\"col\" class=\"k\">Route</th><th scope=\"col\" class=\"k\">Report</th>")?;
-    html.markup(b"<th scope=\"col\" class=\"k\">Release</th><th scope=\"col\" class=\"k r\">Days</th>")?;
+    html.markup(
+        b"<div class=\"wide\"><table class=\"list sort\">\n<thead><tr><th scope=\"col\" class=\"k\">Trip</th>",
+    )?;
+    html.markup(
+        b"<th scope=\"col\" class=\"k\">Route</th><th scope=\"col\" class=\"k\">Report</th>",
+    )?;
+    html.markup(
+        b"<th scope=\"col\" class=\"k\">Release</th><th scope=\"col\" class=\"k r\">Days</th>",
+    )?;
     html.markup(b"<th scope=\"col\" class=\"k r\">Credit</th>")
 }
 
@@ -111,9 +118,11 @@ fn put_trip(
 pub fn put_trips(html: &mut Html, base: &Base, pilots: &[Pilot]) -> Result<(), Memory> {
     html.markup(b"<h2 id=\"trips\">Trips</h2>\n")?;
     put_trips_head(html)?;
-    html.markup(b"<th scope=\"col\" class=\"k r\">Pilots</th><th scope=\"col\" class=\"k\">Flown by</th></tr></thead>\n<tbody>\n")?;
+    html.markup(
+        b"<th scope=\"col\" class=\"k r\">Pilots</th><th scope=\"col\" class=\"k\">Flown by</th></tr></thead>\n<tbody>\n",
+    )?;
     for (number, pairing) in base.pairings.as_slice().iter().enumerate() {
-        put_trip(html, &base.rules.horizon, pilots, number as u32, pairing)?;
+        put_trip(html, &base.rules.horizon, pilots, counted(number), pairing)?;
     }
     html.markup(b"</tbody></table></div>\n")
 }
@@ -121,7 +130,7 @@ pub fn put_trips(html: &mut Html, base: &Base, pilots: &[Pilot]) -> Result<(), M
 /// Whether no pilot is wanting for any pairing.
 fn are_flown(base: &Base, pilots: &[Pilot]) -> bool {
     for (number, pairing) in base.pairings.as_slice().iter().enumerate() {
-        if lack_of(pilots, number as u32, pairing) > 0 {
+        if lack_of(pilots, counted(number), pairing) > 0 {
             return false;
         }
     }
@@ -145,7 +154,7 @@ fn put_open_trip(
 /// Appends the rows of open trips.
 fn put_open_trips(html: &mut Html, base: &Base, pilots: &[Pilot]) -> Result<(), Memory> {
     for (number, pairing) in base.pairings.as_slice().iter().enumerate() {
-        let lack = lack_of(pilots, number as u32, pairing);
+        let lack = lack_of(pilots, counted(number), pairing);
         if lack > 0 {
             put_open_trip(html, &base.rules.horizon, pairing, lack)?;
         }

@@ -6,7 +6,7 @@ mod figures;
 mod open;
 mod page;
 mod records;
-mod report;
+mod reporting;
 mod wanted;
 
-pub use report::{Report, report};
+pub use reporting::{Report, report};

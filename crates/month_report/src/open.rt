@@ -3,7 +3,7 @@ ghost use Rattle.std.specs.Prelude.{◌≡◌, ◌<◌, All, length, true};
 
 use duty_calendar::{List, Memory};
 use line_legality::{Illegal, legal};
-use month_page::{Pilot, lack_of};
+use month_page::{Pilot, counted, lack_of};
 use roster_model::{Line, Problem};
 use std::alloc::Global;
 
@@ -16,12 +16,7 @@ pub struct OpenTrip {
 }
 
 /// Adds the numbers of a line on one side of a pairing: those below it, or those above.
-fn push_side(
-    list: &mut List<u32>,
-    line: &[u32],
-    pairing: u32,
-    below: bool,
-) -> Result<(), Memory> {
+fn push_side(list: &mut List<u32>, line: &[u32], pairing: u32, below: bool) -> Result<(), Memory> {
     for number in line {
         if *number != pairing && (*number < pairing) == below {
             if list.push(*number).is_err() {
@@ -103,7 +98,7 @@ pub fn open_trips(
 ) -> Result<Vec<OpenTrip>, Memory> {
     let mut found = Vec::new(alloc);
     for (number, pairing) in problem.base.pairings.as_slice().iter().enumerate() {
-        let pairing_number = number as u32;
+        let pairing_number = counted(number);
         let lack = lack_of(pilots, pairing_number, pairing);
         if lack > 0 {
             found.push(OpenTrip {

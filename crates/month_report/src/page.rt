@@ -53,8 +53,12 @@ fn put_pilot(html: &mut Html, pilot: &Pilot) -> Result<(), Memory> {
 
 /// Appends the table of pilots.
 fn put_pilots(html: &mut Html, pilots: &[Pilot]) -> Result<(), Memory> {
-    html.markup(b"<h2>Satisfaction by seniority, and credit</h2>\n<div class=\"wide\"><table class=\"list sort\">\n<thead><tr><th scope=\"col\" class=\"k r\">Place</th><th scope=\"col\" class=\"k\">Pilot</th><th scope=\"col\" class=\"k r\">Granted</th><th scope=\"col\" class=\"k r\">Denied</th>")?;
-    html.markup(b"<th scope=\"col\" class=\"k r\">Granted weight</th><th scope=\"col\" class=\"k r\">Bid weight</th><th scope=\"col\" class=\"k r\">Percent</th><th scope=\"col\" class=\"k r\">Least</th><th scope=\"col\" class=\"k r\">Credit</th><th scope=\"col\" class=\"k r\">Greatest</th><th scope=\"col\" class=\"k r\">Days off</th></tr></thead>\n<tbody>\n")?;
+    html.markup(
+        b"<h2>Satisfaction by seniority, and credit</h2>\n<div class=\"wide\"><table class=\"list sort\">\n<thead><tr><th scope=\"col\" class=\"k r\">Place</th><th scope=\"col\" class=\"k\">Pilot</th><th scope=\"col\" class=\"k r\">Granted</th><th scope=\"col\" class=\"k r\">Denied</th>",
+    )?;
+    html.markup(
+        b"<th scope=\"col\" class=\"k r\">Granted weight</th><th scope=\"col\" class=\"k r\">Bid weight</th><th scope=\"col\" class=\"k r\">Percent</th><th scope=\"col\" class=\"k r\">Least</th><th scope=\"col\" class=\"k r\">Credit</th><th scope=\"col\" class=\"k r\">Greatest</th><th scope=\"col\" class=\"k r\">Days off</th></tr></thead>\n<tbody>\n",
+    )?;
     for pilot in pilots {
         put_pilot(html, pilot)?;
     }
@@ -76,7 +80,9 @@ fn put_day(html: &mut Html, horizon: &Horizon, figure: DayFigure) -> Result<(), 
 
 /// Appends the table of days.
 fn put_days(html: &mut Html, horizon: &Horizon, days: &[DayFigure]) -> Result<(), Memory> {
-    html.markup(b"<h2>Days off that were wanted</h2>\n<div class=\"wide\"><table class=\"list sort\">\n<thead><tr><th scope=\"col\" class=\"k\">Day</th><th scope=\"col\" class=\"k r\">Bids with it</th><th scope=\"col\" class=\"k r\">Granted</th><th scope=\"col\" class=\"k r\">Denied</th></tr></thead>\n<tbody>\n")?;
+    html.markup(
+        b"<h2>Days off that were wanted</h2>\n<div class=\"wide\"><table class=\"list sort\">\n<thead><tr><th scope=\"col\" class=\"k\">Day</th><th scope=\"col\" class=\"k r\">Bids with it</th><th scope=\"col\" class=\"k r\">Granted</th><th scope=\"col\" class=\"k r\">Denied</th></tr></thead>\n<tbody>\n",
+    )?;
     for figure in days {
         put_day(html, horizon, *figure)?;
     }
@@ -102,7 +108,9 @@ fn put_trips(html: &mut Html, base: &Base, trips: &[u32]) -> Result<(), Memory> 
 
 /// Appends the trips that nobody wanted.
 fn put_unwanted(html: &mut Html, base: &Base, trips: &[u32]) -> Result<(), Memory> {
-    html.markup(b"<h2>Trips that nobody wanted</h2>\n<p>No bid is to fly it, and none prefers its kind: ")?;
+    html.markup(
+        b"<h2>Trips that nobody wanted</h2>\n<p>No bid is to fly it, and none prefers its kind: ",
+    )?;
     html.count(trips.len())?;
     html.markup(b" of ")?;
     html.count(base.pairings.len())?;
@@ -147,7 +155,9 @@ fn put_open(html: &mut Html, base: &Base, trips: &[OpenTrip]) -> Result<(), Memo
         return html.markup(b"<p>None: each trip has the pilots that it needs.</p>\n");
     }
     put_trips_head(html)?;
-    html.markup(b"<th scope=\"col\" class=\"k r\">Pilots wanting</th><th scope=\"col\">Could fly it</th></tr></thead>\n<tbody>\n")?;
+    html.markup(
+        b"<th scope=\"col\" class=\"k r\">Pilots wanting</th><th scope=\"col\">Could fly it</th></tr></thead>\n<tbody>\n",
+    )?;
     for open in trips {
         put_open_trip(html, base, open)?;
     }

@@ -19,7 +19,9 @@ fn share(part: u32, whole: u32) -> u32 {
 
 /// Where the column of a number begins, of so many.
 fn edge(number: usize, count: usize) -> u32 {
-    let place = (number as u64).saturating_mul(1000).checked_div(count as u64);
+    let place = (number as u64)
+        .saturating_mul(1000)
+        .checked_div(count as u64);
     place.unwrap_or(0).min(1000) as u32
 }
 
@@ -61,7 +63,9 @@ fn put_title(html: &mut Html, bar: &Bar<'_>) -> Result<(), Memory> {
 
 /// Appends the head of a chart, which is told by these words.
 fn put_head(html: &mut Html, told: &'static [u8]) -> Result<(), Memory> {
-    html.markup(b"<svg class=\"chart\" viewBox=\"0 0 1000 100\" preserveAspectRatio=\"none\" role=\"img\" aria-label=\"")?;
+    html.markup(
+        b"<svg class=\"chart\" viewBox=\"0 0 1000 100\" preserveAspectRatio=\"none\" role=\"img\" aria-label=\"",
+    )?;
     html.markup(told)?;
     html.markup(b"\">\n")
 }

@@ -64,7 +64,9 @@ pub fn put_foot(
     sums: &[FileSum],
     built: &[u8],
 ) -> Result<(), Memory> {
-    html.markup(b"<footer>\n<details><summary>The files of this page, and their SHA-256</summary>\n<table class=\"sums\">\n")?;
+    html.markup(
+        b"<footer>\n<details><summary>The files of this page, and their SHA-256</summary>\n<table class=\"sums\">\n",
+    )?;
     put_sums(alloc, html, sums)?;
     html.markup(b"</table>\n")?;
     put_program(html, built)?;

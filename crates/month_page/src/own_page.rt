@@ -10,11 +10,11 @@ use crate::head::{put_clock, put_document, put_styles, put_title};
 use crate::offer_words::put_trades;
 use crate::page_stop::PageStop;
 use crate::paging::{Seen, read_seen};
-use crate::pilot::{Pilot, pilot_of};
+use crate::pilot::{Pilot, member_at, pilot_of};
 use crate::strip::{put_day_heads, put_strip};
 use crate::style::LEGEND;
 use crate::sums::sums_of;
-use duty_calendar::{List, Member, Memory, Rules};
+use duty_calendar::{List, Memory, Rules};
 use month_files::read_month;
 use page_parts::{Html, put_foot};
 use roster_model::{Problem, Reasons, Roster};
@@ -23,12 +23,12 @@ use shelf::Shelf;
 use std::alloc::Global;
 
 /// The number of the member of this name.
-fn member_named(members: &[Member], name: &[u8]) -> Option<u32>
-    ensures known { IfSome result (λ m. m < length members.now) }
+fn member_named(problem: &Problem, name: &[u8]) -> Option<u32>
+    ensures known { IfSome result (λ m. m < length problem.now.base.members) }
 {
-    for (number, member) in members.iter().enumerate() {
-        if member.name.bytes() == name {
-            return Some(number as u32);
+    for member in 0..problem.base.members.len() as u32 {
+        if member_at(problem, member).name.bytes() == name {
+            return Some(member);
         }
     }
     None
@@ -64,7 +64,11 @@ fn put_own(html: &mut Html, problem: &Problem, pilot: &Pilot) -> Result<(), Memo
     put_document(html, &problem.base.rules)?;
     html.markup(b", ")?;
     html.text(pilot.name)?;
-    put_styles(html, &problem.base, b".many{columns:14rem;padding-left:1.2rem}\n")?;
+    put_styles(
+        html,
+        &problem.base,
+        b".many{columns:14rem;padding-left:1.2rem}\n",
+    )?;
     put_pilot_heading(html, &problem.base.rules, pilot)?;
     put_month(html, &problem.base.rules, pilot)?;
     html.markup(b"<h2>Bids</h2>\n<section>\n")?;
@@ -93,12 +97,7 @@ fn print_pilot(
 }
 
 /// A page with its foot.
-fn with_foot(
-    alloc: Global,
-    page: Html,
-    seen: &Seen,
-    built: &[u8],
-) -> Result<List<u8>, Memory> {
+fn with_foot(alloc: Global, page: Html, seen: &Seen, built: &[u8]) -> Result<List<u8>, Memory> {
     let mut html = page;
     put_foot(alloc, &mut html, &sums_of(alloc, seen)?, built)?;
     Ok(html.into_bytes())
@@ -117,7 +116,7 @@ fn pilot_page_of(
     let problem = read_month(alloc, &seen.texts)?;
     let roster = read_roster(alloc, &seen.roster, &problem)?;
     let reasons = read_reasons(alloc, &seen.reasons, &problem)?;
-    let Some(member) = member_named(problem.base.members.as_slice(), name) else {
+    let Some(member) = member_named(&problem, name) else {
         return Ok(None);
     };
     let page = print_pilot(alloc, &problem, &roster, &reasons, member)?;

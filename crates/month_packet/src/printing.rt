@@ -27,7 +27,9 @@ fn put_heading(html: &mut Html, base: &Base) -> Result<(), Memory> {
     html.number(base.rules.days_off)?;
     html.markup(b" days off at least. ")?;
     put_clock(html, &base.rules.horizon)?;
-    html.markup(b"</p>\n<nav class=\"tool\"><a href=\"#bids\">Your bids</a><a href=\"#trips\">Trips</a><a href=\"#days\">By day</a><a href=\"#crew\">What you have</a><span id=\"search\"></span></nav>\n</header>\n")
+    html.markup(
+        b"</p>\n<nav class=\"tool\"><a href=\"#bids\">Your bids</a><a href=\"#trips\">Trips</a><a href=\"#days\">By day</a><a href=\"#crew\">What you have</a><span id=\"search\"></span></nav>\n</header>\n",
+    )
 }
 
 /// Appends a day of the month as a date in bids.
@@ -78,11 +80,7 @@ fn print_packet(
 }
 
 /// The page of what can be bid for. It wants no `bids.txt`. No file is written.
-pub fn packet<S: Shelf>(
-    alloc: Global,
-    shelf: &mut S,
-    built: &[u8],
-) -> Result<List<u8>, PageStop>
+pub fn packet<S: Shelf>(alloc: Global, shelf: &mut S, built: &[u8]) -> Result<List<u8>, PageStop>
     ensures kept { S.holds shelf.new ≡ S.holds shelf.old }
 {
     let texts = plan_texts(alloc, shelf)?;
