@@ -4,9 +4,9 @@ use duty_calendar::Memory;
 use file_places::Prose;
 
 /// What each command is for.
-static HELP: [&[u8]; 18] = [
-    b"pbs-desk FOLDER COMMAND: what pbs does not say, and pages. It writes no file that pbs reads, but bids.txt\n",
-    b"by collect.\n",
+static HELP: [&[u8]; 23] = [
+    b"pbs-desk FOLDER COMMAND: what pbs does not say, and pages. It writes no file that pbs reads, but what\n",
+    b"collect and import make.\n",
     b"\n",
     b"  explain LINE   says a line that pbs printed as a sentence, with the text that it points to and a mark\n",
     b"                 below it; without LINE it reads the lines from standard input: pbs FOLDER check |\n",
@@ -19,6 +19,11 @@ static HELP: [&[u8]; 18] = [
     b"  page           writes month.html: the roster, bids with reasons, trips, charts, as pbs-page does\n",
     b"  page MEMBER    writes pilot-MEMBER.html: the line and the bids of one pilot, and what could be traded\n",
     b"  report         writes report.html and report.csv: what a planner asks of an award\n",
+    b"  diff OTHER     says pilot by pilot what is otherwise than in the folder OTHER or the roster of that file;\n",
+    b"                 it ends with 0 where nothing is, and with 1 where something is\n",
+    b"  calendars [--cancelled OLD]   writes calendars/NAME.ics for each pilot, for phones; what fell away since\n",
+    b"                 the calendars or the award in the folder OLD is cancelled there\n",
+    b"  import SHEET [--force]   makes a file of the month of a spreadsheet's CSV, and says each change\n",
     b"  help           says this\n",
     b"\n",
     b"Pages open in any browser, on a phone too, and ask for no network.\n",
@@ -36,6 +41,6 @@ pub fn put_help(prose: &mut Prose) -> Result<(), Memory> {
 /// Appends how the program is called.
 pub fn put_usage(prose: &mut Prose) -> Result<(), Memory> {
     prose.say(
-        b"usage: pbs-desk FOLDER explain [LINE] | lint | packet | collect DIR [--standing OLD] [--force] | page [MEMBER] | report | help\n",
+        b"usage: pbs-desk FOLDER explain [LINE] | lint | packet | collect DIR [--standing OLD] [--force] | page [MEMBER] | report | diff OTHER | calendars [--cancelled OLD] | import SHEET [--force] | help\n",
     )
 }

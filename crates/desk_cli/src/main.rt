@@ -1,23 +1,38 @@
 //! The program `pbs-desk FOLDER WORDS`: the files of a folder, standard input and standard output.
 #![tactic(auto)]
 
+mod award;
+mod calendars_command;
+mod calendars_main;
+mod calendars_words;
 mod collect_command;
 mod collect_words;
+mod diff_command;
+mod diff_main;
+mod diff_words;
 mod explain_command;
 mod help;
+mod import_command;
+mod import_main;
+mod import_words;
 mod lint_command;
+mod names_file;
 mod packet_command;
 mod page_command;
 mod page_words;
 mod report_command;
 mod runner;
+mod spots;
 mod status;
 mod stops;
 mod words;
 mod writing;
 
+use crate::calendars_main::calendars_in_folders;
 use crate::collect_command::run_collect;
 use crate::collect_words::CollectWords;
+use crate::diff_main::diff_with;
+use crate::import_main::import_from;
 use crate::runner::{run, run_explain};
 use crate::status::DeskStatus;
 use crate::words::{DeskCommand, Request, request_of};
@@ -100,11 +115,17 @@ fn main(rt: HostRuntime) -> ExitCode {
         return ExitCode::from(DeskStatus::NoMemory.code());
     };
     let Request { folder, command } = request;
+    if let DeskCommand::Calendars(old) = &command {
+        let status = calendars_in_folders(&rt, folder.as_str(), old.as_ref(), &mut out);
+        return ExitCode::from(status.code());
+    }
     let mut shelf = FolderShelf::new(&rt, folder);
     let status = match command {
         DeskCommand::ExplainInput => {
             run_explain(rt.alloc(), &mut shelf, &mut out, &standard_input(&rt))
         }
+        DeskCommand::Diff(other) => diff_with(&rt, &mut shelf, other.as_str(), &mut out),
+        DeskCommand::Import(words) => import_from(&rt, &mut shelf, &words, &mut out),
         DeskCommand::Collect(words) => collected(&rt, &mut shelf, &mut out, words),
         command => run(
             rt.alloc(),

@@ -1,6 +1,9 @@
 //! The words of the command line. Each command has its grammar and its words in a file of its own.
 
+use crate::calendars_words::{calendars_grammar, calendars_words};
 use crate::collect_words::{CollectWords, collect_grammar, collect_words};
+use crate::diff_words::{diff_grammar, diff_words};
+use crate::import_words::{ImportWords, import_grammar, import_words};
 use crate::page_words::{page_grammar, page_words};
 use clap::error::ErrorKind;
 use clap::{ArgMatches, Command as Grammar};
@@ -25,6 +28,12 @@ pub enum DeskCommand {
     Collect(CollectWords),
     /// Write the report for planners.
     Report,
+    /// Say what is otherwise than in another folder, or in a roster's file.
+    Diff(String),
+    /// Write a calendar for each pilot, and cancel what fell away since another folder where one is named.
+    Calendars(Option<String>),
+    /// Make a file of the month of a sheet.
+    Import(ImportWords),
     /// Say what each command is for.
     Help,
     /// Say that the words are no command.
@@ -56,10 +65,18 @@ fn with_lone<'w>(alloc: Global) -> Result<Grammar<'w>, AllocError> {
     program.subcommand(Grammar::new(alloc, "report"))
 }
 
+/// A program with the commands over other folders.
+fn with_others<'w>(alloc: Global, program: Grammar<'w>) -> Result<Grammar<'w>, AllocError> {
+    let program = and_command(program, diff_grammar(alloc))?;
+    let program = and_command(program, calendars_grammar(alloc))?;
+    and_command(program, import_grammar(alloc))
+}
+
 /// The commands, but for `explain` and `help`, behind which any words may stand.
 fn grammar<'w>(alloc: Global) -> Result<Grammar<'w>, AllocError> {
     let program = with_lone(alloc)?;
     let program = and_command(program, page_grammar(alloc))?;
+    let program = with_others(alloc, program)?;
     and_command(program, collect_grammar(alloc))
 }
 
@@ -84,6 +101,9 @@ fn named(alloc: Global, name: &str, found: &ArgMatches<'_>) -> Result<DeskComman
         "page" => page_words(alloc, found),
         "packet" => Ok(DeskCommand::Packet),
         "collect" => collect_words(alloc, found),
+        "diff" => diff_words(alloc, found),
+        "calendars" => calendars_words(alloc, found),
+        "import" => import_words(alloc, found),
         "report" => Ok(DeskCommand::Report),
         _ => Ok(DeskCommand::Usage),
     }

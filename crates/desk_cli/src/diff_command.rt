@@ -1,0 +1,128 @@
+//! `diff`: what is otherwise in the roster of a folder than in another one.
+ghost use Rattle.std.specs.Prelude.{◌≡◌, ◌<◌, All, length};
+
+use crate::award::{Award, tell_award, tell_roster_in};
+use crate::runner::say;
+use crate::status::DeskStatus;
+use duty_calendar::Memory;
+use file_places::Prose;
+use roster_diff::{Difference, differences};
+use roster_model::Problem;
+use shelf::{Shelf, Sink};
+use std::alloc::Global;
+
+/// Appends a line for each difference, and says whether there is one.
+fn put_differences(
+    alloc: Global,
+    prose: &mut Prose,
+    list: &[Difference],
+) -> Result<DeskStatus, Memory> {
+    for difference in list {
+        let line = format!(in alloc; "{difference}")?;
+        prose.text(line.as_bytes())?;
+        prose.say(b"\n")?;
+    }
+    if list.is_empty() {
+        return Ok(DeskStatus::Done);
+    }
+    Ok(DeskStatus::Warned)
+}
+
+/// Whether two months are the same one.
+fn are_one_month(one: &Problem, other: &Problem) -> bool {
+    let here = &one.base.rules.horizon;
+    let there = &other.base.rules.horizon;
+    here.year() == there.year() && here.month() == there.month()
+}
+
+/// Appends the differences from the award in a folder.
+fn say_from_folder<S: Shelf>(
+    alloc: Global,
+    other: &mut S,
+    prose: &mut Prose,
+    now: &Award,
+) -> Result<DeskStatus, Memory>
+    requires lines { length now.now.roster ≡ length now.now.problem.base.members }
+    requires in_range { All (All (λ p. p < length now.now.problem.base.pairings)) now.now.roster }
+    ensures kept { S.holds other.new ≡ S.holds other.old }
+{
+    let Some(before) = tell_award(alloc, other, prose)? else {
+        prose.say(b"(this is said of the folder behind diff)\n")?;
+        return Ok(DeskStatus::Faulty);
+    };
+    if !are_one_month(&before.problem, &now.problem) {
+        prose.say(b"the folders are of two months\n")?;
+        return Ok(DeskStatus::Faulty);
+    }
+    let list = differences(
+        alloc,
+        &before.problem,
+        &before.roster,
+        &now.problem,
+        &now.roster,
+    )?;
+    put_differences(alloc, prose, list.as_slice())
+}
+
+/// Appends the differences from another roster of the month.
+fn say_from_file<S: Shelf>(
+    alloc: Global,
+    other: &mut S,
+    prose: &mut Prose,
+    file: &str,
+    now: &Award,
+) -> Result<DeskStatus, Memory>
+    requires lines { length now.now.roster ≡ length now.now.problem.base.members }
+    requires in_range { All (All (λ p. p < length now.now.problem.base.pairings)) now.now.roster }
+    ensures kept { S.holds other.new ≡ S.holds other.old }
+{
+    if file.is_empty() || file.len() > 32 {
+        prose.say(b"the name of the file behind diff must have 1 to 32 bytes\n")?;
+        return Ok(DeskStatus::Faulty);
+    }
+    let Some(before) = tell_roster_in(alloc, other, prose, file, &now.problem)? else {
+        prose.say(b"(this is said of the file behind diff)\n")?;
+        return Ok(DeskStatus::Faulty);
+    };
+    let list = differences(alloc, &now.problem, &before, &now.problem, &now.roster)?;
+    put_differences(alloc, prose, list.as_slice())
+}
+
+/// Appends what is otherwise in the award of a folder than in another folder, or in a file there where one is named.
+fn say_diff<S: Shelf, T: Shelf>(
+    alloc: Global,
+    shelf: &mut S,
+    other: &mut T,
+    prose: &mut Prose,
+    file: Option<&str>,
+) -> Result<DeskStatus, Memory>
+    ensures kept { S.holds shelf.new ≡ S.holds shelf.old }
+    ensures other_kept { T.holds other.new ≡ T.holds other.old }
+{
+    let Some(now) = tell_award(alloc, shelf, prose)? else {
+        return Ok(DeskStatus::Faulty);
+    };
+    match file {
+        Some(file) => say_from_file(alloc, other, prose, file, &now),
+        None => say_from_folder(alloc, other, prose, &now),
+    }
+}
+
+/// Says what is otherwise in the award of a folder than in another folder, or in a file there where one is named. No file is
+/// written.
+pub fn run_diff<S: Shelf, T: Shelf, O: Sink>(
+    alloc: Global,
+    shelf: &mut S,
+    other: &mut T,
+    out: &mut O,
+    file: Option<&str>,
+) -> DeskStatus
+    ensures kept { S.holds shelf.new ≡ S.holds shelf.old }
+    ensures other_kept { T.holds other.new ≡ T.holds other.old }
+{
+    let mut prose = Prose::new(alloc);
+    match say_diff(alloc, shelf, other, &mut prose, file) {
+        Ok(status) => say(out, &prose, status),
+        Err(Memory::NoMemory) => DeskStatus::NoMemory,
+    }
+}
