@@ -7,6 +7,8 @@ use crate::ladder::{first_lens, first_lenses, is_of_line, is_trackable};
 use crate::pairings::PairingSet;
 use crate::pricing::Care;
 use crate::program::Program;
+use crate::sheets::Sheet;
+use crate::sizes::is_large;
 use bid_score::{granted, score};
 use column_pool::Pool;
 use duty_calendar::{Copied, List, Memory};
@@ -66,6 +68,7 @@ pub struct Kept {
     program: Option<Program>,
     barren: AllBarren,
     leaves: Vec<Vec<i64>>,
+    sheets: Vec<Sheet>,
 }
 
 /// The number in 32 bits, or the greatest where it does not fit.
@@ -264,7 +267,51 @@ impl Kept {
             program: None,
             barren: AllBarren::new(alloc, problem.base.members.len())?,
             leaves: Vec::new(alloc),
+            sheets: if is_large(problem) {
+                Sheet::all(alloc, problem)?
+            } else {
+                Vec::new(alloc)
+            },
         })
+    }
+
+    /// What flat searches ask of the member's month; none where the month is not large.
+    pub(crate) fn sheet(&self, member: usize) -> Option<&Sheet> {
+        self.sheets.get(member)
+    }
+
+    /// What is known of a line, kept or not.
+    pub(crate) fn look_at(
+        &self,
+        alloc: Global,
+        problem: &Problem,
+        member: usize,
+        line: &Line,
+    ) -> Result<Profile, Memory> {
+        let pairings = PairingSet::of(line.pairings());
+        if let Some(place) = self.place_of(member, &pairings) {
+            if let Some(profile) = self.profile(member, place) {
+                return Ok(*profile);
+            }
+        }
+        let owner = number(member);
+        let mut profile = known_of(problem, owner, line, pairings);
+        profile.broken = broken(alloc, problem, owner, line)?;
+        Ok(profile)
+    }
+
+    /// Keeps a line of which this is known, if it is not kept, and says its number; none where there is no room for it.
+    pub(crate) fn keep_known(
+        &mut self,
+        problem: &Problem,
+        member: usize,
+        line: Line,
+        profile: Profile,
+    ) -> Result<Option<usize>, Memory> {
+        if let Some(place) = self.place_of(member, &profile.pairings) {
+            return Ok(Some(place));
+        }
+        self.keep_as(problem, member, line, profile)
     }
 
     /// Whether the member's searches are held to be dear.

@@ -107,6 +107,11 @@ fn tracked_of(problem: &Problem, member: usize, goal: &Goal) -> u64 {
     }
 }
 
+/// Whether bids about whole lines matter for the goal.
+pub(crate) fn is_decided_by_lines(problem: &Problem, member: usize, goal: &Goal) -> bool {
+    tracked_of_line(problem, member, goal) != 0
+}
+
 /// Lets the lens look at pairings one by one.
 pub(crate) fn look_at_pairings(problem: &Problem, member: usize, goal: &Goal, lens: &mut Lens) {
     lens.tracked = tracked_of(problem, member, goal);

@@ -1,0 +1,257 @@
+//! What a flat search goes through: the places that a row leaves open, the bids that they decide, and the limits of the member's
+//! line; and the tables of a stage.
+
+use crate::board::Row;
+use crate::demands::{Demand, Wanted, wanted_of};
+use crate::free_hours::Rested;
+use crate::kept::{is_member, number};
+use crate::places::{Place, look_ahead, open_flights, places_of};
+use crate::sheets::Sheet;
+use crate::sizes::WINDOWS;
+use crate::tables::{Change, LOWEST, Table, Taking};
+use duty_calendar::{List, Memory};
+use line_items::{base_usage, window_caps};
+use roster_model::{Goal, Lens, Problem, Window};
+use std::alloc::Global;
+
+/// How many wanted bids are told apart at most.
+const MOST_BIDS: usize = 64;
+
+/// The course of a member: the places, the last of which is the end; what wanted bids weigh, by their bits; which of them are
+/// spoiled by pairings; how much a line may lose of what they weigh; the least and the greatest credit; the days that are busy
+/// anyway, and how many more may be; and the limits of the windows.
+#[derive(Drop)]
+pub(crate) struct Course {
+    pub places: Vec<Place>,
+    pub weights: Vec<u32>,
+    pub spoiled: u64,
+    pub allowed: u32,
+    pub low: u32,
+    pub high: u32,
+    pub busy: u32,
+    pub most_days: u32,
+    pub caps: [u32; WINDOWS],
+    pub start: Start,
+}
+
+/// What a line begins with: wanted bids that are not granted, as bits, credit, free hours, and minutes in windows.
+#[derive(Clone, Copy)]
+pub(crate) struct Start {
+    pub bids: u64,
+    pub credit: u32,
+    pub rested: Rested,
+    pub usage: [u32; WINDOWS],
+}
+
+/// What may be gained by hours that are left, by hours that are due, and by bids; and which bids the last tells apart.
+#[derive(Drop)]
+pub(crate) struct Tables {
+    pub left: Table,
+    pub due: Table,
+    pub bids: Table,
+    pub told: u64,
+}
+
+/// What some bids weigh together.
+pub(crate) fn weigh_bids(weights: &[u32], bids: u64) -> u32 {
+    let mut left = bids;
+    let mut sum: u32 = 0;
+    for _ in 0..64u32 {
+        if left == 0 {
+            return sum;
+        }
+        let bit = left.trailing_zeros() as usize;
+        sum = sum.saturating_add(weights.get(bit).copied().unwrap_or(0));
+        left &= left.wrapping_sub(1);
+    }
+    sum
+}
+
+/// The lens that looks at the last few windows of this one.
+fn last_windows(alloc: Global, lens: &Lens) -> Result<Lens, Memory> {
+    let all = lens.windows.as_slice();
+    let from = all.len().saturating_sub(WINDOWS);
+    let mut windows: Vec<Window> = Vec::new(alloc);
+    for window in all.get(from..).unwrap_or(&[]) {
+        windows.push(*window)?;
+    }
+    Ok(Lens {
+        grain: lens.grain,
+        tracked: lens.tracked,
+        free30: lens.free30,
+        days: lens.days,
+        whole: lens.whole,
+        windows: List::from_vec(windows),
+    })
+}
+
+/// What each state of the first wanted bids lets be gained at the end: nothing where too much is lost.
+fn ends_of(
+    alloc: Global,
+    weights: &[u32],
+    allowed: u32,
+    bids: usize,
+) -> Result<Vec<i64>, Memory> {
+    let mut lost: Vec<u32> = Vec::new(alloc);
+    lost.push(0)?;
+    for bid in 0..bids {
+        let weight = weights.get(bid).copied().unwrap_or(0);
+        for state in 0..lost.len() {
+            let without = lost.get(state).copied().unwrap_or(0);
+            lost.push(without.saturating_add(weight))?;
+        }
+    }
+    let mut ends = Vec::new(alloc);
+    for sum in &lost {
+        ends.push(if *sum > allowed { LOWEST } else { 0 })?;
+    }
+    Ok(ends)
+}
+
+impl Course {
+    /// The course of a member whose decisions are a row, for a goal, with the last windows of a lens; none where it has no line.
+    pub(crate) fn new(
+        alloc: Global,
+        problem: &Problem,
+        sheet: &Sheet,
+        member: usize,
+        goal: &Goal,
+        row: &Row,
+        lens: &Lens,
+    ) -> Result<Option<Course>, Memory> {
+        let Some(mut demand) = Demand::of(alloc, sheet, member, goal)? else {
+            return Ok(None);
+        };
+        let Some(open) = open_flights(alloc, sheet, row)? else {
+            return Ok(None);
+        };
+        let lens = last_windows(alloc, lens)?;
+        let places = places_of(alloc, problem, &open, row, &lens)?;
+        let Some(wanted) = wanted_of(alloc, sheet, &places, &mut demand)? else {
+            return Ok(None);
+        };
+        let Some(owner) = problem.base.members.as_slice().get(member) else {
+            return Ok(None);
+        };
+        let days = problem.base.rules.horizon.days();
+        let may_be_busy = days.saturating_sub(problem.base.rules.days_off);
+        let mut course = Course {
+            places,
+            weights: Vec::new(alloc),
+            spoiled: 0,
+            allowed: demand.allowed,
+            low: owner.low,
+            high: owner.high,
+            busy: sheet.days,
+            most_days: may_be_busy.saturating_sub(sheet.days.count_ones()),
+            caps: [u32::MAX; WINDOWS],
+            start: Start {
+                bids: 0,
+                credit: sheet.credit,
+                rested: sheet.rested,
+                usage: [0; WINDOWS],
+            },
+        };
+        course.look_at_windows(problem, member, &lens);
+        course.add_bids(&wanted)?;
+        look_ahead(&mut course.places, sheet.days);
+        Ok(Some(course))
+    }
+
+    /// Has the limits of the lens's windows, and what the member has flown in them.
+    fn look_at_windows(&mut self, problem: &Problem, member: usize, lens: &Lens) {
+        let owner = number(member);
+        if lens.windows.len() == 0 || !is_member(problem, owner) {
+            return;
+        }
+        self.start.usage = base_usage::<WINDOWS>(problem, owner, lens);
+        let limits = window_caps::<WINDOWS>(lens.windows.as_slice());
+        let own = self.caps.iter_mut().zip(limits.iter());
+        for (cap, limit) in own.take(lens.windows.len()) {
+            *cap = *limit;
+        }
+    }
+
+    /// Has the wanted bids, by bits in their order.
+    fn add_bids(&mut self, wanted: &[Wanted]) -> Result<(), Memory> {
+        for (bid, one) in wanted.iter().enumerate() {
+            if bid >= MOST_BIDS {
+                return Ok(());
+            }
+            let bit = 1u64 << bid;
+            self.weights.push(one.weight)?;
+            if one.spoils {
+                self.spoiled |= bit;
+            } else {
+                self.start.bids |= bit;
+            }
+            for place in self.places.iter_mut() {
+                if one.pairings.contains(place.flight.pairing as usize) {
+                    if one.spoils {
+                        place.spoils |= bit;
+                    } else {
+                        place.grants |= bit;
+                    }
+                }
+            }
+        }
+        Ok(())
+    }
+
+    /// Has what each place gains.
+    pub(crate) fn gain(&mut self, weights: &[i64]) {
+        for place in self.places.iter_mut() {
+            let pairing = place.flight.pairing as usize;
+            place.gain = weights.get(pairing).copied().unwrap_or(0);
+        }
+    }
+
+    /// How many places there are before the end.
+    pub(crate) fn len(&self) -> usize {
+        self.places.len().saturating_sub(1)
+    }
+
+    /// The tables that tell so many bids apart.
+    pub(crate) fn tables(&self, alloc: Global, bids: usize) -> Result<Tables, Memory> {
+        let count = self.len();
+        let hours = (self.high.saturating_sub(self.start.credit) / 60) as usize;
+        let dues = (self.low.saturating_sub(self.start.credit).saturating_add(59) / 60) as usize;
+        let left = vec![in alloc; 0i64; hours.saturating_add(1)]?;
+        let mut due = vec![in alloc; LOWEST; dues.saturating_add(1)]?;
+        if let Some(none) = due.first_mut() {
+            *none = 0;
+        }
+        let ends = ends_of(alloc, &self.weights, self.allowed, bids)?;
+        let mut tables = Tables {
+            left: Table::new(alloc, &left, count)?,
+            due: Table::new(alloc, &due, count)?,
+            bids: Table::new(alloc, &ends, count)?,
+            told: (1u64 << (bids % 64)).wrapping_sub(1),
+        };
+        for place in self.places.iter().rev().skip(1) {
+            tables.add(place, count);
+        }
+        Ok(tables)
+    }
+}
+
+impl Tables {
+    /// The rows of the place before, of so many.
+    fn add(&mut self, place: &Place, count: usize) {
+        let taking = Taking {
+            gain: place.gain,
+            back: count.saturating_sub(place.next),
+            is_flown: place.is_flown,
+        };
+        let credit = place.flight.credit;
+        self.left
+            .add(taking, Change::Left((credit / 60) as usize));
+        self.due
+            .add(taking, Change::Due((credit.saturating_add(59) / 60) as usize));
+        let bids = Change::Bids {
+            spoils: (place.spoils & self.told) as usize,
+            grants: (place.grants & self.told) as usize,
+        };
+        self.bids.add(taking, bids);
+    }
+}

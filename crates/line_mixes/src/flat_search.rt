@@ -1,0 +1,238 @@
+//! Flat searches for guesses: a line of a member above a bound (of negative reduced cost), of the pairings alone that a row leaves
+//! open. A line that is found was tested; that none is found proves nothing.
+
+use crate::board::Row;
+use crate::course::{Course, Tables};
+use crate::kept::{Kept, Profile, number};
+use crate::labels::{Climb, Label};
+use crate::pairings::PairingSet;
+use crate::pricing::Care;
+use crate::sheets::Sheet;
+use crate::sizes::{MOST_STATES, MOST_TESTS, STAGES, UNBOUND_STEPS};
+use crate::trail::Trail;
+use duty_calendar::{List, Memory};
+use line_legality::Illegal;
+use roster_model::{Goal, Lens, Line, Problem, Window, WindowKind};
+use std::alloc::Global;
+
+/// How many windows a lens may look at.
+const MOST_WINDOWS: usize = 16;
+
+/// What is asked of a member: a line that obeys the row, may serve the goal, and weighs more than a bound.
+#[derive(Clone, Copy)]
+pub(crate) struct Asked<'a> {
+    pub member: usize,
+    pub goal: &'a Goal,
+    pub row: &'a Row,
+    pub weights: &'a [i64],
+    pub over: i64,
+}
+
+/// A line that was found, what it weighs, and what is known of it.
+#[derive(Drop)]
+pub(crate) struct FlatLine {
+    pub line: Line,
+    pub weight: i64,
+    pub profile: Profile,
+}
+
+/// What a flat search comes to: a line, nothing, or no answer.
+#[derive(Drop)]
+pub(crate) enum Found {
+    Line(FlatLine),
+    Nothing,
+    Limit,
+}
+
+/// The line of these pairings.
+fn line_of(alloc: Global, problem: &Problem, set: &PairingSet) -> Result<Option<Line>, Memory> {
+    let mut pairings: Vec<u32> = Vec::new(alloc);
+    for pairing in 0..problem.base.pairings.len() {
+        if set.contains(pairing) {
+            pairings.push(number(pairing))?;
+        }
+    }
+    Ok(Line::new(List::from_vec(pairings)))
+}
+
+/// The window of a rule that a line broke.
+fn window_of(why: Illegal) -> Option<Window> {
+    let (kind, start) = match why {
+        Illegal::Flight672(start) => (WindowKind::Flight672, start),
+        Illegal::Duty672(start) => (WindowKind::Duty672, start),
+        Illegal::Duty168(start) => (WindowKind::Duty168, start),
+        Illegal::Flight365(start) => (WindowKind::Flight365, start),
+        _ => return None,
+    };
+    Some(Window { kind, start })
+}
+
+/// Whether a line is to be answered: it may serve, or breaks a rule in a window that the lens may look at next.
+fn is_answer(profile: &Profile, asked: &Asked, lens: &Lens) -> bool {
+    let Some(why) = profile.broken else {
+        return profile.may_serve(asked.goal, asked.member, Care::Rough);
+    };
+    match window_of(why) {
+        Some(window) => {
+            lens.windows.len() < MOST_WINDOWS && !lens.windows.as_slice().contains(&window)
+        }
+        None => false,
+    }
+}
+
+/// A flat search: what is asked of whom, by which lens, over which course.
+#[derive(Clone, Copy)]
+struct Search<'a> {
+    problem: &'a Problem,
+    kept: &'a Kept,
+    asked: &'a Asked<'a>,
+    lens: &'a Lens,
+    climb: Climb<'a>,
+}
+
+impl Search<'_> {
+    /// Tests the line of a label; none where it is not to be answered.
+    fn tested(
+        &self,
+        alloc: Global,
+        trail: &Trail,
+        label: &Label,
+    ) -> Result<Option<FlatLine>, Memory> {
+        let Some(line) = line_of(alloc, self.problem, &trail.pairings(label))? else {
+            return Ok(None);
+        };
+        let profile = self.kept.look_at(alloc, self.problem, self.asked.member, &line)?;
+        if !is_answer(&profile, self.asked, self.lens) {
+            return Ok(None);
+        }
+        Ok(Some(FlatLine {
+            line,
+            weight: label.gain,
+            profile,
+        }))
+    }
+
+    /// Goes on from a label: the better of what comes of it is next, the other waits.
+    fn extend(&self, trail: &mut Trail, label: &Label) -> Result<Option<Label>, Memory> {
+        if !trail.enter(&self.climb, label)? {
+            return Ok(None);
+        }
+        let passed = self.climb.passed(label);
+        let Some(mut taken) = self.climb.taken(label) else {
+            return Ok(passed);
+        };
+        if let Some(place) = self.climb.course.places.get(label.place) {
+            trail.take(&mut taken, place.flight.pairing)?;
+        }
+        match passed {
+            Some(passed) if passed.best > taken.best => {
+                trail.wait(taken)?;
+                Ok(Some(passed))
+            }
+            Some(passed) => {
+                trail.wait(passed)?;
+                Ok(Some(taken))
+            }
+            None => Ok(Some(taken)),
+        }
+    }
+
+    /// Goes on from label to label, so many, depth first.
+    fn climbed(&self, alloc: Global, steps: u64) -> Result<Found, Memory> {
+        let mut trail = Trail::new(alloc, self.climb.course.places.len())?;
+        let mut turn = self.climb.rated(Label::first(self.climb.course));
+        let mut tests: u32 = 0;
+        for _ in 0..steps {
+            if turn.is_none() {
+                turn = trail.next();
+            }
+            let Some(label) = turn else {
+                return Ok(Found::Nothing);
+            };
+            if !self.climb.is_at_end(&label) {
+                turn = self.extend(&mut trail, &label)?;
+                continue;
+            }
+            turn = None;
+            if !self.climb.is_done(&label) {
+                continue;
+            }
+            if let Some(found) = self.tested(alloc, &trail, &label)? {
+                return Ok(Found::Line(found));
+            }
+            tests = tests.saturating_add(1);
+            if tests >= MOST_TESTS {
+                return Ok(Found::Limit);
+            }
+        }
+        Ok(Found::Limit)
+    }
+}
+
+/// Searches a course stage by stage, each with a stronger table of bids.
+fn staged(
+    alloc: Global,
+    problem: &Problem,
+    kept: &Kept,
+    asked: &Asked,
+    lens: &Lens,
+    course: &Course,
+    sheet: &Sheet,
+    limit: u64,
+) -> Result<Found, Memory> {
+    let all = course.weights.len();
+    let mut left = if all == 0 { limit.min(UNBOUND_STEPS) } else { limit };
+    for stage in STAGES {
+        let bids = stage.bids.min(all);
+        let tables = course.tables(alloc, bids)?;
+        let steps = if bids == all { left } else { stage.steps.min(left) };
+        let search = Search {
+            problem,
+            kept,
+            asked,
+            lens,
+            climb: Climb {
+                course,
+                sheet,
+                tables: &tables,
+                over: asked.over,
+            },
+        };
+        let found = search.climbed(alloc, steps)?;
+        left = left.saturating_sub(steps);
+        match found {
+            Found::Limit if left > 0 => {}
+            found => return Ok(found),
+        }
+    }
+    Ok(Found::Limit)
+}
+
+/// A line of the member above the bound that obeys the row and may serve the goal, or one that breaks a rule in a window which
+/// the lens may look at next.
+pub(crate) fn flat_over(
+    alloc: Global,
+    problem: &Problem,
+    kept: &Kept,
+    asked: &Asked,
+    lens: &Lens,
+    limit: u64,
+) -> Result<Found, Memory> {
+    let Some(sheet) = kept.sheet(asked.member) else {
+        return Ok(Found::Limit);
+    };
+    let course = Course::new(
+        alloc,
+        problem,
+        sheet,
+        asked.member,
+        asked.goal,
+        asked.row,
+        lens,
+    )?;
+    let Some(mut course) = course else {
+        return Ok(Found::Nothing);
+    };
+    course.gain(asked.weights);
+    staged(alloc, problem, kept, asked, lens, &course, sheet, limit)
+}
