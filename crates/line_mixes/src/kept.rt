@@ -7,6 +7,7 @@ use crate::ladder::{first_lens, first_lenses, is_of_line, is_trackable};
 use crate::pairings::PairingSet;
 use crate::pricing::Care;
 use crate::program::Program;
+use crate::recent::{KeptLine, Recent};
 use crate::sheets::Sheet;
 use crate::sizes::is_large;
 use bid_score::{granted, score};
@@ -69,6 +70,7 @@ pub struct Kept {
     barren: AllBarren,
     leaves: Vec<Vec<i64>>,
     sheets: Vec<Sheet>,
+    recent: Recent,
 }
 
 /// The number in 32 bits, or the greatest where it does not fit.
@@ -267,6 +269,7 @@ impl Kept {
             program: None,
             barren: AllBarren::new(alloc, problem.base.members.len())?,
             leaves: Vec::new(alloc),
+            recent: Recent::new(alloc),
             sheets: if is_large(problem) {
                 Sheet::all(alloc, problem)?
             } else {
@@ -278,6 +281,11 @@ impl Kept {
     /// What flat searches ask of the member's month; none where the month is not large.
     pub(crate) fn sheet(&self, member: usize) -> Option<&Sheet> {
         self.sheets.get(member)
+    }
+
+    /// The legal lines of all members that were kept lately.
+    pub(crate) fn recent(&self) -> &[KeptLine] {
+        self.recent.lines()
     }
 
     /// What is known of a line, kept or not.
@@ -532,6 +540,9 @@ impl Kept {
         };
         flat.add(kept.pairings())?;
         profiles.push(profile)?;
+        if profile.broken.is_none() {
+            self.recent.add(KeptLine { member, place })?;
+        }
         Ok(Some(place))
     }
 }

@@ -4,6 +4,7 @@
 
 mod barren;
 mod board;
+mod borrowing;
 mod columns;
 mod course;
 mod demands;
@@ -18,6 +19,7 @@ mod pairings;
 mod places;
 mod pricing;
 mod program;
+mod recent;
 mod sheets;
 mod simplex;
 mod sizes;
@@ -26,6 +28,7 @@ mod tested;
 mod trail;
 
 pub use board::{Board, Row};
+pub use borrowing::Borrowed;
 pub use columns::Columns;
 pub use kept::{Kept, Profile, is_granted, is_member, number};
 pub use ladder::{first_lens, first_lenses, is_first};
