@@ -1,6 +1,7 @@
 //! What a flat search goes through: the places that a row leaves open, the bids that they decide, and the limits of the member's
 //! line; and the tables of a stage.
 
+use crate::blocks::Blocks;
 use crate::board::Row;
 use crate::demands::{Demand, Wanted, wanted_of};
 use crate::free_hours::Rested;
@@ -9,9 +10,9 @@ use crate::places::{Place, look_ahead, open_flights, places_of};
 use crate::sheets::Sheet;
 use crate::sizes::WINDOWS;
 use crate::tables::{Change, LOWEST, Table, Taking};
-use duty_calendar::{List, Memory};
+use duty_calendar::Memory;
 use line_items::{base_usage, window_caps};
-use roster_model::{Goal, Lens, Problem, Window};
+use roster_model::{Goal, Lens, Problem};
 use std::alloc::Global;
 
 /// How many wanted bids are told apart at most.
@@ -32,6 +33,7 @@ pub(crate) struct Course {
     pub most_days: u32,
     pub caps: [u32; WINDOWS],
     pub start: Start,
+    pub blocks: Blocks,
 }
 
 /// What a line begins with: wanted bids that are not granted, as bits, credit, free hours, and minutes in windows.
@@ -43,12 +45,17 @@ pub(crate) struct Start {
     pub usage: [u32; WINDOWS],
 }
 
-/// What may be gained by hours that are left, by hours that are due, and by bids; and which bids the last tells apart.
+/// What may be gained by hours that are left, and by hours that are due.
 #[derive(Drop)]
-pub(crate) struct Tables {
+pub(crate) struct Hours {
     pub left: Table,
     pub due: Table,
-    pub bids: Table,
+}
+
+/// What may be gained by bids, and which of them the table tells apart.
+#[derive(Drop)]
+pub(crate) struct Bids {
+    pub table: Table,
     pub told: u64,
 }
 
@@ -65,24 +72,6 @@ pub(crate) fn weigh_bids(weights: &[u32], bids: u64) -> u32 {
         left &= left.wrapping_sub(1);
     }
     sum
-}
-
-/// The lens that looks at the last few windows of this one.
-fn last_windows(alloc: Global, lens: &Lens) -> Result<Lens, Memory> {
-    let all = lens.windows.as_slice();
-    let from = all.len().saturating_sub(WINDOWS);
-    let mut windows: Vec<Window> = Vec::new(alloc);
-    for window in all.get(from..).unwrap_or(&[]) {
-        windows.push(*window)?;
-    }
-    Ok(Lens {
-        grain: lens.grain,
-        tracked: lens.tracked,
-        free30: lens.free30,
-        days: lens.days,
-        whole: lens.whole,
-        windows: List::from_vec(windows),
-    })
 }
 
 /// What each state of the first wanted bids lets be gained at the end: nothing where too much is lost.
@@ -109,7 +98,7 @@ fn ends_of(
 }
 
 impl Course {
-    /// The course of a member whose decisions are a row, for a goal, with the last windows of a lens; none where it has no line.
+    /// The course of a member whose decisions are a row, for a goal, with the windows of a lens; none where it has no line.
     pub(crate) fn new(
         alloc: Global,
         problem: &Problem,
@@ -125,8 +114,7 @@ impl Course {
         let Some(open) = open_flights(alloc, sheet, row)? else {
             return Ok(None);
         };
-        let lens = last_windows(alloc, lens)?;
-        let places = places_of(alloc, problem, &open, row, &lens)?;
+        let places = places_of(alloc, problem, &open, row, lens)?;
         let Some(wanted) = wanted_of(alloc, sheet, &places, &mut demand)? else {
             return Ok(None);
         };
@@ -136,6 +124,7 @@ impl Course {
         let days = problem.base.rules.horizon.days();
         let may_be_busy = days.saturating_sub(problem.base.rules.days_off);
         let mut course = Course {
+            blocks: Blocks::new(alloc, sheet, &places)?,
             places,
             weights: Vec::new(alloc),
             spoiled: 0,
@@ -152,7 +141,7 @@ impl Course {
                 usage: [0; WINDOWS],
             },
         };
-        course.look_at_windows(problem, member, &lens);
+        course.look_at_windows(problem, member, lens);
         course.add_bids(&wanted)?;
         look_ahead(&mut course.places, sheet.days);
         Ok(Some(course))
@@ -204,6 +193,7 @@ impl Course {
             let pairing = place.flight.pairing as usize;
             place.gain = weights.get(pairing).copied().unwrap_or(0);
         }
+        self.blocks.fill(&self.places);
     }
 
     /// How many places there are before the end.
@@ -211,47 +201,50 @@ impl Course {
         self.places.len().saturating_sub(1)
     }
 
-    /// The tables that tell so many bids apart.
-    pub(crate) fn tables(&self, alloc: Global, bids: usize) -> Result<Tables, Memory> {
-        let count = self.len();
-        let hours = (self.high.saturating_sub(self.start.credit) / 60) as usize;
-        let dues = (self.low.saturating_sub(self.start.credit).saturating_add(59) / 60) as usize;
-        let left = vec![in alloc; 0i64; hours.saturating_add(1)]?;
-        let mut due = vec![in alloc; LOWEST; dues.saturating_add(1)]?;
-        if let Some(none) = due.first_mut() {
-            *none = 0;
+    /// What taking the pairing of a place does.
+    fn taking(&self, place: &Place) -> Taking {
+        Taking {
+            gain: place.gain,
+            back: self.len().saturating_sub(place.next),
+            is_flown: place.is_flown,
         }
-        let ends = ends_of(alloc, &self.weights, self.allowed, bids)?;
-        let mut tables = Tables {
-            left: Table::new(alloc, &left, count)?,
-            due: Table::new(alloc, &due, count)?,
-            bids: Table::new(alloc, &ends, count)?,
-            told: (1u64 << (bids % 64)).wrapping_sub(1),
+    }
+
+    /// The tables of hours.
+    pub(crate) fn hours(&self, alloc: Global) -> Result<Hours, Memory> {
+        let left = self.high.saturating_sub(self.start.credit) / 60;
+        let due = self.low.saturating_sub(self.start.credit).saturating_add(59) / 60;
+        let all = vec![in alloc; 0i64; (left as usize).saturating_add(1)]?;
+        let mut none = vec![in alloc; LOWEST; (due as usize).saturating_add(1)]?;
+        if let Some(met) = none.first_mut() {
+            *met = 0;
+        }
+        let mut hours = Hours {
+            left: Table::new(alloc, &all, self.len())?,
+            due: Table::new(alloc, &none, self.len())?,
         };
         for place in self.places.iter().rev().skip(1) {
-            tables.add(place, count);
+            let taking = self.taking(place);
+            let credit = place.flight.credit;
+            let (down, up) = (credit / 60, credit.saturating_add(59) / 60);
+            hours.left.add(taking, Change::Left(down as usize));
+            hours.due.add(taking, Change::Due(up as usize));
         }
-        Ok(tables)
+        Ok(hours)
     }
-}
 
-impl Tables {
-    /// The rows of the place before, of so many.
-    fn add(&mut self, place: &Place, count: usize) {
-        let taking = Taking {
-            gain: place.gain,
-            back: count.saturating_sub(place.next),
-            is_flown: place.is_flown,
-        };
-        let credit = place.flight.credit;
-        self.left
-            .add(taking, Change::Left((credit / 60) as usize));
-        self.due
-            .add(taking, Change::Due((credit.saturating_add(59) / 60) as usize));
-        let bids = Change::Bids {
-            spoils: (place.spoils & self.told) as usize,
-            grants: (place.grants & self.told) as usize,
-        };
-        self.bids.add(taking, bids);
+    /// The table that tells so many bids apart, the heaviest.
+    pub(crate) fn bids(&self, alloc: Global, bids: usize) -> Result<Bids, Memory> {
+        let ends = ends_of(alloc, &self.weights, self.allowed, bids)?;
+        let told = (1u64 << (bids % 64)).wrapping_sub(1);
+        let mut table = Table::new(alloc, &ends, self.len())?;
+        for place in self.places.iter().rev().skip(1) {
+            let change = Change::Bids {
+                spoils: (place.spoils & told) as usize,
+                grants: (place.grants & told) as usize,
+            };
+            table.add(self.taking(place), change);
+        }
+        Ok(Bids { table, told })
     }
 }

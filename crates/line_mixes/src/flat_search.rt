@@ -2,10 +2,12 @@
 //! open. A line that is found was tested; that none is found proves nothing.
 
 use crate::board::Row;
-use crate::course::{Course, Tables};
+use crate::course::Course;
 use crate::kept::{Kept, Profile, number};
 use crate::labels::{Climb, Label};
+use crate::ladder::lately;
 use crate::pairings::PairingSet;
+use crate::prepared::Prepared;
 use crate::pricing::Care;
 use crate::sheets::Sheet;
 use crate::sizes::{MOST_STATES, MOST_TESTS, STAGES, UNBOUND_STEPS};
@@ -169,6 +171,12 @@ impl Search<'_> {
     }
 }
 
+/// How many bids a table over so many places may tell apart.
+fn most_bids(places: usize) -> usize {
+    let states = MOST_STATES.checked_div(places).unwrap_or(1).max(1);
+    63u32.saturating_sub(states.leading_zeros()) as usize
+}
+
 /// Searches a course stage by stage, each with a stronger table of bids.
 fn staged(
     alloc: Global,
@@ -182,9 +190,10 @@ fn staged(
 ) -> Result<Found, Memory> {
     let all = course.weights.len();
     let mut left = if all == 0 { limit.min(UNBOUND_STEPS) } else { limit };
+    let hours = course.hours(alloc)?;
     for stage in STAGES {
-        let bids = stage.bids.min(all);
-        let tables = course.tables(alloc, bids)?;
+        let bids = stage.bids.min(all).min(most_bids(course.len()));
+        let table = course.bids(alloc, bids)?;
         let steps = if bids == all { left } else { stage.steps.min(left) };
         let search = Search {
             problem,
@@ -194,7 +203,8 @@ fn staged(
             climb: Climb {
                 course,
                 sheet,
-                tables: &tables,
+                hours: &hours,
+                bids: &table,
                 over: asked.over,
             },
         };
@@ -208,31 +218,49 @@ fn staged(
     Ok(Found::Limit)
 }
 
+/// The course of what is asked, with the windows of a lens: that of the last search, where that serves; none where there is no
+/// line.
+fn prepared(
+    alloc: Global,
+    problem: &Problem,
+    kept: &mut Kept,
+    asked: &Asked,
+    lens: &Lens,
+) -> Result<Option<Prepared>, Memory> {
+    let (member, goal, row) = (asked.member, asked.goal, asked.row);
+    if let Some(last) = kept.take_prepared(member) {
+        if last.serves(member, goal, row, lens) {
+            return Ok(Some(last));
+        }
+    }
+    let Some(sheet) = kept.sheet(member) else {
+        return Ok(None);
+    };
+    match Course::new(alloc, problem, sheet, member, goal, row, lens)? {
+        Some(course) => Ok(Some(Prepared::new(alloc, member, goal, row, lens, course)?)),
+        None => Ok(None),
+    }
+}
+
 /// A line of the member above the bound that obeys the row and may serve the goal, or one that breaks a rule in a window which
 /// the lens may look at next.
 pub(crate) fn flat_over(
     alloc: Global,
     problem: &Problem,
-    kept: &Kept,
+    kept: &mut Kept,
     asked: &Asked,
     lens: &Lens,
     limit: u64,
 ) -> Result<Found, Memory> {
+    let few = lately(alloc, lens)?;
+    let Some(mut prepared) = prepared(alloc, problem, kept, asked, &few)? else {
+        return Ok(Found::Nothing);
+    };
+    prepared.course.gain(asked.weights);
     let Some(sheet) = kept.sheet(asked.member) else {
         return Ok(Found::Limit);
     };
-    let course = Course::new(
-        alloc,
-        problem,
-        sheet,
-        asked.member,
-        asked.goal,
-        asked.row,
-        lens,
-    )?;
-    let Some(mut course) = course else {
-        return Ok(Found::Nothing);
-    };
-    course.gain(asked.weights);
-    staged(alloc, problem, kept, asked, lens, &course, sheet, limit)
+    let found = staged(alloc, problem, kept, asked, lens, &prepared.course, sheet, limit)?;
+    kept.keep_prepared(asked.member, prepared);
+    Ok(found)
 }

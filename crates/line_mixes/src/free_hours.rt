@@ -3,9 +3,9 @@
 use duty_calendar::Interval;
 
 /// How long the free hours are, in minutes.
-const FREE: u32 = 1_800;
+pub(crate) const FREE: u32 = 1_800;
 /// How long before a duty they may begin, in minutes.
-const WITHIN: u32 = 10_080;
+pub(crate) const WITHIN: u32 = 10_080;
 
 /// Duty of a member's own, and whether it is to have free hours before.
 #[derive(Clone, Copy)]

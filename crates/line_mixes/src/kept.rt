@@ -5,6 +5,7 @@ ghost use Rattle.roster_model.specs.Scores.{bids_of};
 use crate::barren::AllBarren;
 use crate::ladder::{first_lens, first_lenses, is_of_line, is_trackable};
 use crate::pairings::PairingSet;
+use crate::prepared::Prepared;
 use crate::pricing::Care;
 use crate::program::Program;
 use crate::recent::{KeptLine, Recent};
@@ -70,6 +71,7 @@ pub struct Kept {
     barren: AllBarren,
     leaves: Vec<Vec<i64>>,
     sheets: Vec<Sheet>,
+    prepared: Vec<Option<Prepared>>,
     recent: Recent,
 }
 
@@ -251,8 +253,10 @@ impl Kept {
     pub fn new(alloc: Global, problem: &Problem) -> Result<Kept, Memory> {
         let mut profiles = Vec::new(alloc);
         let mut flats = Vec::new(alloc);
+        let mut prepared = Vec::new(alloc);
         for _member in 0..problem.base.members.len() {
             profiles.push(Vec::new(alloc))?;
+            prepared.push(None)?;
             flats.push(Flat {
                 pairings: Vec::new(alloc),
                 spans: Vec::new(alloc),
@@ -269,6 +273,7 @@ impl Kept {
             program: None,
             barren: AllBarren::new(alloc, problem.base.members.len())?,
             leaves: Vec::new(alloc),
+            prepared,
             recent: Recent::new(alloc),
             sheets: if is_large(problem) {
                 Sheet::all(alloc, problem)?
@@ -281,6 +286,18 @@ impl Kept {
     /// What flat searches ask of the member's month; none where the month is not large.
     pub(crate) fn sheet(&self, member: usize) -> Option<&Sheet> {
         self.sheets.get(member)
+    }
+
+    /// Hands out the course of the member's last flat search.
+    pub(crate) fn take_prepared(&mut self, member: usize) -> Option<Prepared> {
+        self.prepared.get_mut(member)?.take()
+    }
+
+    /// Keeps the course of a flat search of the member.
+    pub(crate) fn keep_prepared(&mut self, member: usize, prepared: Prepared) {
+        if let Some(own) = self.prepared.get_mut(member) {
+            *own = Some(prepared);
+        }
     }
 
     /// The legal lines of all members that were kept lately.

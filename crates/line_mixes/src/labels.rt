@@ -1,7 +1,7 @@
 //! Labels of a flat search: parts of lines up to a place. A label is extended by its pairing or without it, let go where what may
 //! still be gained is too little, and let go where another at its place serves as well (dominance).
 
-use crate::course::{Course, Tables, weigh_bids};
+use crate::course::{Bids, Course, Hours, weigh_bids};
 use crate::free_hours::Rested;
 use crate::places::Place;
 use crate::sheets::Sheet;
@@ -10,7 +10,8 @@ use crate::tables::LOWEST;
 
 /// A part of a line: the place that is next, the pairing that was taken last by its number on the trail, what is gained and
 /// what is gained at best with what may come, wanted bids that are lost or not granted yet, how much of their weight is lost for
-/// good, credit, free hours, days that are busy, and minutes in windows.
+/// good, credit, free hours, the first place whose report is behind these, the first place that may have free hours before it, days
+/// that are busy, and minutes in windows.
 #[derive(Clone, Copy)]
 pub(crate) struct Label {
     pub place: usize,
@@ -21,6 +22,8 @@ pub(crate) struct Label {
     pub lost: u32,
     pub credit: u32,
     pub rested: Rested,
+    pub block: usize,
+    pub after: usize,
     pub days: u32,
     pub usage: [u32; WINDOWS],
 }
@@ -30,7 +33,8 @@ pub(crate) struct Label {
 pub(crate) struct Climb<'a> {
     pub course: &'a Course,
     pub sheet: &'a Sheet,
-    pub tables: &'a Tables,
+    pub hours: &'a Hours,
+    pub bids: &'a Bids,
     pub over: i64,
 }
 
@@ -46,14 +50,16 @@ impl Label {
             lost: 0,
             credit: course.start.credit,
             rested: course.start.rested,
+            block: course.blocks.after(course.start.rested.free),
+            after: course.blocks.after(course.start.rested.rest),
             days: 0,
             usage: course.start.usage,
         }
     }
 
     /// Bids that are not granted yet and can't be any more are lost, if no table tells them apart.
-    fn lose(&mut self, course: &Course, tables: &Tables, place: &Place) {
-        let over = self.bids & !place.ahead.grants & !tables.told & !course.spoiled;
+    fn lose(&mut self, course: &Course, told: u64, place: &Place) {
+        let over = self.bids & !place.ahead.grants & !told & !course.spoiled;
         if over != 0 {
             let weight = weigh_bids(&course.weights, over);
             self.lost = self.lost.saturating_add(weight);
@@ -99,7 +105,7 @@ impl Climb<'_> {
         let Some(place) = course.places.get(label.place) else {
             return false;
         };
-        label.lose(course, self.tables, place);
+        label.lose(course, self.bids.told, place);
         let most = label.credit.saturating_add(place.ahead.credit);
         if label.lost > course.allowed || most < course.low {
             return false;
@@ -120,13 +126,14 @@ impl Climb<'_> {
         let back = course.len().saturating_sub(label.place);
         let left = course.high.saturating_sub(label.credit) / 60;
         let due = course.low.saturating_sub(label.credit).saturating_add(59) / 60;
-        let bids = label.bids & self.tables.told;
+        let bids = label.bids & self.bids.told;
         let most = self
-            .tables
+            .hours
             .left
             .at(back, left as usize)
-            .min(self.tables.due.at(back, due as usize))
-            .min(self.tables.bids.at(back, bids as usize));
+            .min(self.hours.due.at(back, due as usize))
+            .min(self.bids.table.at(back, bids as usize))
+            .min(course.blocks.most(label.place, label.block, label.after));
         label.best = label.gain.wrapping_add(most);
         most > LOWEST / 4 && label.best > self.over
     }
@@ -173,6 +180,8 @@ impl Climb<'_> {
         if !next.fly(&place.usage, &course.caps) || !self.work(&mut next.rested, place) {
             return None;
         }
+        next.block = course.blocks.after(next.rested.free);
+        next.after = course.blocks.after(next.rested.rest);
         self.rated(next)
     }
 

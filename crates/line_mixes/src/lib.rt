@@ -3,6 +3,7 @@
 #![tactic(auto)]
 
 mod barren;
+mod blocks;
 mod board;
 mod borrowing;
 mod columns;
@@ -17,6 +18,7 @@ mod ladder;
 mod mix;
 mod pairings;
 mod places;
+mod prepared;
 mod pricing;
 mod program;
 mod recent;

@@ -54,5 +54,5 @@ pub(crate) const COMPARED: usize = 8;
 /// How many lines one search tests.
 pub(crate) const MOST_TESTS: u32 = 40;
 
-/// How many windows of a lens labels count.
+/// With how many windows of a lens a search begins at most, and how many a flat search counts: labels that count more are dear.
 pub(crate) const WINDOWS: usize = 4;
