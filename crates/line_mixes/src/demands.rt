@@ -1,8 +1,8 @@
 //! What a goal asks of a member's line, as bits of bids: what each weighs, and how much of it a line may lose.
 
-use crate::kept::{bid_asked, bit_of, floor_of};
 use crate::pairings::PairingSet;
 use crate::places::Place;
+use crate::profiles::{bid_asked, bit_of, floor_of};
 use crate::sheets::Sheet;
 use duty_calendar::Memory;
 use roster_model::Goal;

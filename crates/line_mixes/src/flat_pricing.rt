@@ -14,7 +14,7 @@ const MOST_RUNGS: u32 = 24;
 /// Whether lines of the member are looked for by flat searches: the month is large, and no bid about whole lines matters for
 /// the goal.
 pub(crate) fn is_flat(problem: &Problem, kept: &Kept, member: usize, goal: &Goal) -> bool {
-    kept.sheet(member).is_some() && !is_decided_by_lines(problem, member, goal)
+    kept.courses().sheet(member).is_some() && !is_decided_by_lines(problem, member, goal)
 }
 
 /// A line of the member above the bound that may serve the goal and obeys the row; or that flat searches find none. The lens of

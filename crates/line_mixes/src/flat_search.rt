@@ -3,12 +3,13 @@
 
 use crate::board::Row;
 use crate::course::Course;
-use crate::kept::{Kept, Profile, number};
+use crate::kept::Kept;
 use crate::labels::{Climb, Label};
 use crate::ladder::lately;
 use crate::pairings::PairingSet;
 use crate::prepared::Prepared;
 use crate::pricing::Care;
+use crate::profiles::{Profile, number};
 use crate::sheets::Sheet;
 use crate::sizes::{MOST_STATES, MOST_TESTS, STAGES, UNBOUND_STEPS};
 use crate::trail::Trail;
@@ -228,12 +229,12 @@ fn prepared(
     lens: &Lens,
 ) -> Result<Option<Prepared>, Memory> {
     let (member, goal, row) = (asked.member, asked.goal, asked.row);
-    if let Some(last) = kept.take_prepared(member) {
+    if let Some(last) = kept.courses_mut().take(member) {
         if last.serves(member, goal, row, lens) {
             return Ok(Some(last));
         }
     }
-    let Some(sheet) = kept.sheet(member) else {
+    let Some(sheet) = kept.courses().sheet(member) else {
         return Ok(None);
     };
     match Course::new(alloc, problem, sheet, member, goal, row, lens)? {
@@ -257,10 +258,10 @@ pub(crate) fn flat_over(
         return Ok(Found::Nothing);
     };
     prepared.course.gain(asked.weights);
-    let Some(sheet) = kept.sheet(asked.member) else {
+    let Some(sheet) = kept.courses().sheet(asked.member) else {
         return Ok(Found::Limit);
     };
     let found = staged(alloc, problem, kept, asked, lens, &prepared.course, sheet, limit)?;
-    kept.keep_prepared(asked.member, prepared);
+    kept.courses_mut().keep(asked.member, prepared);
     Ok(found)
 }

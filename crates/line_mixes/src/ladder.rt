@@ -1,6 +1,6 @@
 //! Lenses that look at more and more.
 
-use crate::kept::{bid_asked, bit_of, floor_of};
+use crate::profiles::{bid_asked, bit_of, floor_of};
 use crate::sizes::WINDOWS;
 use duty_calendar::{List, Member, Memory};
 use line_legality::Illegal;

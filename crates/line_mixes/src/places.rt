@@ -3,6 +3,7 @@
 
 use crate::board::Row;
 use crate::pairings::PairingSet;
+use crate::profiles::number;
 use crate::sheets::{Flight, Sheet};
 use crate::sizes::WINDOWS;
 use duty_calendar::{Interval, Memory};
@@ -79,7 +80,7 @@ fn flown_flights(alloc: Global, sheet: &Sheet, row: &Row) -> Result<Option<Vec<F
         }
     }
     let count = row.flown.distance(&PairingSet::new());
-    Ok(if flown.len() as i64 == count {
+    Ok(if i64::from(number(flown.len())) == count {
         Some(flown)
     } else {
         None

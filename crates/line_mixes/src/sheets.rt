@@ -2,8 +2,8 @@
 //! is fixed.
 
 use crate::free_hours::{Own, Rested};
-use crate::kept::{is_member, number};
 use crate::ladder::first_lens;
+use crate::profiles::{is_member, number};
 use duty_calendar::{Event, Interval, Kind, Memory};
 use line_items::{first_credit, fixed_days, mask_step, may_fly, start_bits, touched_days};
 use roster_model::{Lens, Node, Problem, Wish, pairing_span};
