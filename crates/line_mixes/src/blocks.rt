@@ -35,17 +35,30 @@ fn first_from(reports: &[u32], minute: u32) -> usize {
 }
 
 /// The last report of duties before there are free hours among them, and whether there are.
-fn last_report(duties: &[Interval]) -> (u32, bool) {
-    let mut last: u32 = 0;
-    let mut rest = u32::MAX;
-    for duty in duties {
-        if duty.start.saturating_sub(rest) >= FREE {
-            return (last, true);
+#[derive(Clone, Copy)]
+struct Reports {
+    last: u32,
+    is_renewed: bool,
+}
+
+impl Reports {
+    /// Those of these duties.
+    fn of(duties: &[Interval]) -> Reports {
+        let mut reports = Reports {
+            last: 0,
+            is_renewed: false,
+        };
+        let mut rest = u32::MAX;
+        for duty in duties {
+            if duty.start.saturating_sub(rest) >= FREE {
+                reports.is_renewed = true;
+                return reports;
+            }
+            reports.last = duty.start;
+            rest = duty.stop;
         }
-        last = duty.start;
-        rest = duty.stop;
+        reports
     }
-    (last, false)
 }
 
 impl Blocks {
@@ -60,13 +73,13 @@ impl Blocks {
         let mut size: usize = 0;
         for (number, place) in places.iter().take(count).enumerate() {
             let duties = sheet.duties.get(place.flight.from..place.flight.to);
-            let (last, is_renewed) = last_report(duties.unwrap_or(&[]));
-            let begin = last.saturating_add(FREE).saturating_sub(WITHIN);
+            let own = Reports::of(duties.unwrap_or(&[]));
+            let begin = own.last.saturating_add(FREE).saturating_sub(WITHIN);
             let first = first_from(&reports, begin).min(number);
             let ready = place.flight.span.stop.saturating_add(FREE);
             spells.push(Spell {
                 first,
-                is_renewed,
+                is_renewed: own.is_renewed,
                 after: first_from(&reports, ready),
                 row: size,
             })?;
@@ -126,8 +139,10 @@ impl Blocks {
 
     /// Fills in what may be gained from each of the places on.
     pub(crate) fn fill(&mut self, places: &[Place]) {
-        for (number, place) in places.iter().enumerate().rev() {
-            self.fill_place(number, place);
+        for number in (0..places.len()).rev() {
+            if let Some(place) = places.get(number) {
+                self.fill_place(number, place);
+            }
         }
     }
 

@@ -221,7 +221,7 @@ fn staged(
 
 /// The course of what is asked, with the windows of a lens: that of the last search, where that serves; none where there is no
 /// line.
-fn prepared(
+fn course_for(
     alloc: Global,
     problem: &Problem,
     kept: &mut Kept,
@@ -254,7 +254,7 @@ pub(crate) fn flat_over(
     limit: u64,
 ) -> Result<Found, Memory> {
     let few = lately(alloc, lens)?;
-    let Some(mut prepared) = prepared(alloc, problem, kept, asked, &few)? else {
+    let Some(mut prepared) = course_for(alloc, problem, kept, asked, &few)? else {
         return Ok(Found::Nothing);
     };
     prepared.course.gain(asked.weights);
