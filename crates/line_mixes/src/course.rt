@@ -5,11 +5,12 @@ use crate::blocks::Blocks;
 use crate::board::Row;
 use crate::demands::{Demand, Wanted, wanted_of};
 use crate::free_hours::Rested;
+use crate::hours::Hours;
 use crate::places::{Place, look_ahead, open_flights, places_of};
 use crate::profiles::{is_member, number};
 use crate::sheets::Sheet;
 use crate::sizes::WINDOWS;
-use crate::tables::{Change, LOWEST, Table, Taking};
+use crate::tables::{Change, LOWEST, Table};
 use duty_calendar::Memory;
 use line_items::{base_usage, window_caps};
 use roster_model::{Goal, Lens, Problem};
@@ -20,7 +21,8 @@ const MOST_BIDS: usize = 64;
 
 /// The course of a member: the places, the last of which is the end; what wanted bids weigh, by their bits; which of them are
 /// spoiled by pairings; how much a line may lose of what they weigh; the least and the greatest credit; the days that are busy
-/// anyway, and how many more may be; and the limits of the windows.
+/// anyway, and how many more may be; the limits of the windows; and
+/// what may still be gained by hours and by free hours, where that was asked for.
 #[derive(Drop)]
 pub(crate) struct Course {
     pub places: Vec<Place>,
@@ -33,7 +35,9 @@ pub(crate) struct Course {
     pub most_days: u32,
     pub caps: [u32; WINDOWS],
     pub start: Start,
+    pub hours: Hours,
     pub blocks: Blocks,
+    pub has_blocks: bool,
 }
 
 /// What a line begins with: wanted bids that are not granted, as bits, credit, free hours, and minutes in windows.
@@ -43,13 +47,6 @@ pub(crate) struct Start {
     pub credit: u32,
     pub rested: Rested,
     pub usage: [u32; WINDOWS],
-}
-
-/// What may be gained by hours that are left, and by hours that are due.
-#[derive(Drop)]
-pub(crate) struct Hours {
-    pub left: Table,
-    pub due: Table,
 }
 
 /// What may be gained by bids, and which of them the table tells apart.
@@ -124,7 +121,9 @@ impl Course {
         let days = problem.base.rules.horizon.days();
         let may_be_busy = days.saturating_sub(problem.base.rules.days_off);
         let mut course = Course {
+            hours: Hours::new(alloc, owner, sheet.credit, places.len().saturating_sub(1))?,
             blocks: Blocks::new(alloc, sheet, &places)?,
+            has_blocks: false,
             places,
             weights: Vec::new(alloc),
             spoiled: 0,
@@ -187,13 +186,22 @@ impl Course {
         Ok(())
     }
 
-    /// Has what each place gains.
+    /// Has what each place gains, and the tables of hours; that of free hours is to be asked for.
     pub(crate) fn gain(&mut self, weights: &[i64]) {
         for place in self.places.iter_mut() {
             let pairing = place.flight.pairing as usize;
             place.gain = weights.get(pairing).copied().unwrap_or(0);
         }
-        self.blocks.fill(&self.places);
+        self.hours.fill(&self.places);
+        self.has_blocks = false;
+    }
+
+    /// Has the table of free hours.
+    pub(crate) fn look_at_free_hours(&mut self) {
+        if !self.has_blocks {
+            self.blocks.fill(&self.places);
+            self.has_blocks = true;
+        }
     }
 
     /// How many places there are before the end.
@@ -201,49 +209,19 @@ impl Course {
         self.places.len().saturating_sub(1)
     }
 
-    /// What taking the pairing of a place does.
-    fn taking(&self, place: &Place) -> Taking {
-        Taking {
-            gain: place.gain,
-            back: self.len().saturating_sub(place.next),
-            is_flown: place.is_flown,
-        }
-    }
-
-    /// The tables of hours.
-    pub(crate) fn hours(&self, alloc: Global) -> Result<Hours, Memory> {
-        let left = self.high.saturating_sub(self.start.credit) / 60;
-        let due = self.low.saturating_sub(self.start.credit).saturating_add(59) / 60;
-        let all = vec![in alloc; 0i64; (left as usize).saturating_add(1)]?;
-        let mut none = vec![in alloc; LOWEST; (due as usize).saturating_add(1)]?;
-        if let Some(met) = none.first_mut() {
-            *met = 0;
-        }
-        let mut hours = Hours {
-            left: Table::new(alloc, &all, self.len())?,
-            due: Table::new(alloc, &none, self.len())?,
-        };
-        for place in self.places.iter().rev().skip(1) {
-            let taking = self.taking(place);
-            let credit = place.flight.credit;
-            let (down, up) = (credit / 60, credit.saturating_add(59) / 60);
-            hours.left.add(taking, Change::Left(down as usize));
-            hours.due.add(taking, Change::Due(up as usize));
-        }
-        Ok(hours)
-    }
-
     /// The table that tells so many bids apart, the heaviest.
     pub(crate) fn bids(&self, alloc: Global, bids: usize) -> Result<Bids, Memory> {
         let ends = ends_of(alloc, &self.weights, self.allowed, bids)?;
         let told = (1u64 << (bids % 64)).wrapping_sub(1);
         let mut table = Table::new(alloc, &ends, self.len())?;
-        for place in self.places.iter().rev().skip(1) {
-            let change = Change::Bids {
-                spoils: (place.spoils & told) as usize,
-                grants: (place.grants & told) as usize,
-            };
-            table.add(self.taking(place), change);
+        for back in 1..self.places.len() {
+            if let Some(place) = self.places.get(self.len().saturating_sub(back)) {
+                let change = Change::Bids {
+                    spoils: (place.spoils & told) as usize,
+                    grants: (place.grants & told) as usize,
+                };
+                table.fill(back, place.taking(self.len()), change);
+            }
         }
         Ok(Bids { table, told })
     }

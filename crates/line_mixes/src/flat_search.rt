@@ -2,7 +2,7 @@
 //! open. A line that is found was tested; that none is found proves nothing.
 
 use crate::board::Row;
-use crate::course::Course;
+use crate::course::{Bids, Course};
 use crate::kept::Kept;
 use crate::labels::{Climb, Label};
 use crate::ladder::lately;
@@ -11,7 +11,7 @@ use crate::prepared::Prepared;
 use crate::pricing::Care;
 use crate::profiles::{Profile, number};
 use crate::sheets::Sheet;
-use crate::sizes::{MOST_STATES, MOST_TESTS, STAGES, UNBOUND_STEPS};
+use crate::sizes::{MOST_STATES, MOST_TESTS, STAGES};
 use crate::trail::Trail;
 use duty_calendar::{List, Memory};
 use line_legality::Illegal;
@@ -83,17 +83,24 @@ fn is_answer(profile: &Profile, asked: &Asked, lens: &Lens) -> bool {
     }
 }
 
-/// A flat search: what is asked of whom, by which lens, over which course.
+/// What flat searches are about: what is asked of whom, by which lens.
 #[derive(Clone, Copy)]
-struct Search<'a> {
+struct Scene<'a> {
     problem: &'a Problem,
     kept: &'a Kept,
+    sheet: &'a Sheet,
     asked: &'a Asked<'a>,
     lens: &'a Lens,
+}
+
+/// A flat search over a course.
+#[derive(Clone, Copy)]
+struct Search<'a> {
+    scene: Scene<'a>,
     climb: Climb<'a>,
 }
 
-impl Search<'_> {
+impl Scene<'_> {
     /// Tests the line of a label; none where it is not to be answered.
     fn tested(
         &self,
@@ -104,7 +111,8 @@ impl Search<'_> {
         let Some(line) = line_of(alloc, self.problem, &trail.pairings(label))? else {
             return Ok(None);
         };
-        let profile = self.kept.look_at(alloc, self.problem, self.asked.member, &line)?;
+        let member = self.asked.member;
+        let profile = self.kept.look_at(alloc, self.problem, member, &line)?;
         if !is_answer(&profile, self.asked, self.lens) {
             return Ok(None);
         }
@@ -114,7 +122,9 @@ impl Search<'_> {
             profile,
         }))
     }
+}
 
+impl Search<'_> {
     /// Goes on from a label: the better of what comes of it is next, the other waits.
     fn extend(&self, trail: &mut Trail, label: &Label) -> Result<Option<Label>, Memory> {
         if !trail.enter(&self.climb, label)? {
@@ -160,7 +170,7 @@ impl Search<'_> {
             if !self.climb.is_done(&label) {
                 continue;
             }
-            if let Some(found) = self.tested(alloc, &trail, &label)? {
+            if let Some(found) = self.scene.tested(alloc, &trail, &label)? {
                 return Ok(Found::Line(found));
             }
             tests = tests.saturating_add(1);
@@ -178,41 +188,55 @@ fn most_bids(places: usize) -> usize {
     63u32.saturating_sub(states.leading_zeros()) as usize
 }
 
-/// Searches a course stage by stage, each with a stronger table of bids.
+/// What is asked of a member who has a sheet.
+fn scene_of<'a>(
+    problem: &'a Problem,
+    kept: &'a Kept,
+    asked: &'a Asked<'a>,
+    lens: &'a Lens,
+) -> Option<Scene<'a>> {
+    let sheet = kept.courses().sheet(asked.member)?;
+    Some(Scene {
+        problem,
+        kept,
+        sheet,
+        asked,
+        lens,
+    })
+}
+
+/// The search over a course by a table of bids.
+fn search_by<'a>(scene: Scene<'a>, course: &'a Course, bids: &'a Bids) -> Search<'a> {
+    Search {
+        scene,
+        climb: Climb {
+            course,
+            sheet: scene.sheet,
+            bids,
+            over: scene.asked.over,
+        },
+    }
+}
+
+/// Searches a course stage by stage, each with a stronger table of bids, and from the second on with that of free hours.
 fn staged(
     alloc: Global,
-    problem: &Problem,
-    kept: &Kept,
-    asked: &Asked,
-    lens: &Lens,
-    course: &Course,
-    sheet: &Sheet,
+    scene: Scene,
+    course: &mut Course,
     limit: u64,
 ) -> Result<Found, Memory> {
     let all = course.weights.len();
-    let mut left = if all == 0 { limit.min(UNBOUND_STEPS) } else { limit };
-    let hours = course.hours(alloc)?;
-    for stage in STAGES {
+    let mut left = limit;
+    for (number, stage) in STAGES.iter().enumerate() {
         let bids = stage.bids.min(all).min(most_bids(course.len()));
         let table = course.bids(alloc, bids)?;
-        let steps = if bids == all { left } else { stage.steps.min(left) };
-        let search = Search {
-            problem,
-            kept,
-            asked,
-            lens,
-            climb: Climb {
-                course,
-                sheet,
-                hours: &hours,
-                bids: &table,
-                over: asked.over,
-            },
-        };
-        let found = search.climbed(alloc, steps)?;
+        if number > 0 {
+            course.look_at_free_hours();
+        }
+        let steps = stage.steps.min(left);
         left = left.saturating_sub(steps);
-        match found {
-            Found::Limit if left > 0 => {}
+        match search_by(scene, course, &table).climbed(alloc, steps)? {
+            Found::Limit if left > 0 && (number == 0 || bids < all) => {}
             found => return Ok(found),
         }
     }
@@ -258,10 +282,10 @@ pub(crate) fn flat_over(
         return Ok(Found::Nothing);
     };
     prepared.course.gain(asked.weights);
-    let Some(sheet) = kept.courses().sheet(asked.member) else {
+    let Some(scene) = scene_of(problem, kept, asked, lens) else {
         return Ok(Found::Limit);
     };
-    let found = staged(alloc, problem, kept, asked, lens, &prepared.course, sheet, limit)?;
+    let found = staged(alloc, scene, &mut prepared.course, limit)?;
     kept.courses_mut().keep(asked.member, prepared);
     Ok(found)
 }

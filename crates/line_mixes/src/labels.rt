@@ -1,7 +1,7 @@
 //! Labels of a flat search: parts of lines up to a place. A label is extended by its pairing or without it, let go where what may
 //! still be gained is too little, and let go where another at its place serves as well (dominance).
 
-use crate::course::{Bids, Course, Hours, weigh_bids};
+use crate::course::{Bids, Course, weigh_bids};
 use crate::free_hours::Rested;
 use crate::places::Place;
 use crate::sheets::Sheet;
@@ -33,7 +33,6 @@ pub(crate) struct Label {
 pub(crate) struct Climb<'a> {
     pub course: &'a Course,
     pub sheet: &'a Sheet,
-    pub hours: &'a Hours,
     pub bids: &'a Bids,
     pub over: i64,
 }
@@ -124,16 +123,13 @@ impl Climb<'_> {
     fn rate(&self, label: &mut Label) -> bool {
         let course = self.course;
         let back = course.len().saturating_sub(label.place);
-        let left = course.high.saturating_sub(label.credit) / 60;
-        let due = course.low.saturating_sub(label.credit).saturating_add(59) / 60;
         let bids = label.bids & self.bids.told;
-        let most = self
-            .hours
-            .left
-            .at(back, left as usize)
-            .min(self.hours.due.at(back, due as usize))
-            .min(self.bids.table.at(back, bids as usize))
-            .min(course.blocks.most(label.place, label.block, label.after));
+        let by_bids = self.bids.table.at(back, bids as usize);
+        let mut most = course.hours.most(back, label.credit).min(by_bids);
+        if course.has_blocks && label.gain.wrapping_add(most) > self.over {
+            let by_blocks = course.blocks.most(label.place, label.block, label.after);
+            most = most.min(by_blocks);
+        }
         label.best = label.gain.wrapping_add(most);
         most > LOWEST / 4 && label.best > self.over
     }

@@ -13,6 +13,7 @@ mod first_lines;
 mod flat_pricing;
 mod flat_search;
 mod free_hours;
+mod hours;
 mod kept;
 mod labels;
 mod ladder;

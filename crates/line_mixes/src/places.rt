@@ -6,6 +6,7 @@ use crate::pairings::PairingSet;
 use crate::profiles::number;
 use crate::sheets::{Flight, Sheet};
 use crate::sizes::WINDOWS;
+use crate::tables::Taking;
 use duty_calendar::{Interval, Memory};
 use line_items::item_usage;
 use roster_model::{Lens, Problem};
@@ -55,6 +56,15 @@ impl Place {
                 days: 0,
                 usage: [0; WINDOWS],
             },
+        }
+    }
+
+    /// What taking does, of so many places.
+    pub(crate) fn taking(&self, places: usize) -> Taking {
+        Taking {
+            gain: self.gain,
+            back: places.saturating_sub(self.next),
+            is_flown: self.is_flown,
         }
     }
 }

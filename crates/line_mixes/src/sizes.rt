@@ -45,9 +45,6 @@ pub(crate) const STAGES: [Stage; 3] = [
 /// How many states of places a table of bids may have: 1 ms.
 pub(crate) const MOST_STATES: usize = 1_000_000;
 
-/// How many steps a flat search has where no bid binds it: what is not found in these is seldom found in more.
-pub(crate) const UNBOUND_STEPS: u64 = 20_000;
-
 /// How many labels at its place a label is compared with.
 pub(crate) const COMPARED: usize = 8;
 

@@ -11,7 +11,6 @@ pub(crate) const LOWEST: i64 = -1_152_921_504_606_846_976;
 #[derive(Drop)]
 pub(crate) struct Table {
     width: usize,
-    filled: usize,
     cells: Vec<i64>,
 }
 
@@ -36,6 +35,13 @@ pub(crate) enum Change {
 fn row(cells: &[i64], width: usize, number: usize) -> &[i64] {
     let from = number.saturating_mul(width);
     cells.get(from..from.saturating_add(width)).unwrap_or(&[])
+}
+
+/// The cells as those of another row, where the pairing may be passed; else nothing is to be gained.
+fn pass(cells: &mut [i64], passed: &[i64], is_flown: bool) {
+    for (cell, value) in cells.iter_mut().zip(passed) {
+        *cell = if is_flown { LOWEST } else { *value };
+    }
 }
 
 /// Raises each cell to what is gained before that of another row.
@@ -92,11 +98,7 @@ impl Table {
         for (cell, value) in cells.iter_mut().zip(end) {
             *cell = *value;
         }
-        Ok(Table {
-            width,
-            filled: 1,
-            cells,
-        })
+        Ok(Table { width, cells })
     }
 
     /// What may be gained so many places before the end, in a state.
@@ -105,20 +107,15 @@ impl Table {
         self.cells.get(index).copied().unwrap_or(LOWEST)
     }
 
-    /// The row of the place before.
-    pub(crate) fn add(&mut self, taking: Taking, change: Change) {
+    /// Fills the row of the place so many before the end, where those behind it are filled.
+    pub(crate) fn fill(&mut self, back: usize, taking: Taking, change: Change) {
         let width = self.width;
-        let from = self.filled.saturating_mul(width).min(self.cells.len());
+        let from = back.saturating_mul(width).min(self.cells.len());
         let (done, rest) = self.cells.split_at_mut(from);
         let most = width.min(rest.len());
         let (cells, _) = rest.split_at_mut(most);
-        if !taking.is_flown {
-            let passed = row(done, width, self.filled.saturating_sub(1));
-            for (cell, value) in cells.iter_mut().zip(passed) {
-                *cell = *value;
-            }
-        }
+        let passed = row(done, width, back.saturating_sub(1));
+        pass(cells, passed, taking.is_flown);
         raise_by(cells, row(done, width, taking.back), taking.gain, change);
-        self.filled = self.filled.saturating_add(1);
     }
 }
