@@ -1,5 +1,6 @@
 //! Lines for guesses at rosters, by flat searches.
 
+use crate::board::Row;
 use crate::flat_search::{Asked, Found, flat_over};
 use crate::kept::Kept;
 use crate::ladder::{is_decided_by_lines, lately, refine};
@@ -19,17 +20,26 @@ pub(crate) fn is_flat(problem: &Problem, kept: &Kept, member: usize, goal: &Goal
 
 /// A line of the member above the bound that may serve the goal and obeys the row; or that flat searches find none. The lens of
 /// the member's searches is made to look at the windows in which lines that were found break a rule.
-pub(crate) fn price_flat(
+pub(crate) fn price_flat<'a>(
     alloc: Global,
     problem: &Problem,
     kept: &mut Kept,
-    asked: &Asked,
-    steps: u64,
+    member: usize,
+    goal: &'a Goal,
+    row: &'a Row,
+    weights: &'a [i64],
+    over: i64,
 ) -> Result<Priced, Memory> {
-    let member = asked.member;
+    let asked = Asked {
+        member,
+        goal,
+        row,
+        weights,
+        over,
+    };
     let mut lens = kept.lens(alloc, problem, member)?;
     for _ in 0..MOST_RUNGS {
-        let found = match flat_over(alloc, problem, kept, asked, &lens, steps)? {
+        let found = match flat_over(alloc, problem, kept, &asked, &lens)? {
             Found::Line(found) => found,
             Found::Nothing => return Ok(Priced::Nothing(lens)),
             Found::Limit => return Ok(Priced::Unknown),

@@ -188,55 +188,34 @@ fn most_bids(places: usize) -> usize {
     63u32.saturating_sub(states.leading_zeros()) as usize
 }
 
-/// What is asked of a member who has a sheet.
-fn scene_of<'a>(
-    problem: &'a Problem,
-    kept: &'a Kept,
-    asked: &'a Asked<'a>,
-    lens: &'a Lens,
-) -> Option<Scene<'a>> {
-    let sheet = kept.courses().sheet(asked.member)?;
-    Some(Scene {
-        problem,
-        kept,
-        sheet,
-        asked,
-        lens,
-    })
-}
-
-/// The search over a course by a table of bids.
-fn search_by<'a>(scene: Scene<'a>, course: &'a Course, bids: &'a Bids) -> Search<'a> {
-    Search {
-        scene,
-        climb: Climb {
-            course,
-            sheet: scene.sheet,
-            bids,
-            over: scene.asked.over,
-        },
-    }
+/// The search over a course by a table of bids, with so many steps.
+fn climbed_by<'a>(
+    alloc: Global,
+    scene: Scene<'a>,
+    course: &'a Course,
+    bids: &'a Bids,
+    steps: u64,
+) -> Result<Found, Memory> {
+    let climb = Climb {
+        course,
+        sheet: scene.sheet,
+        bids,
+        over: scene.asked.over,
+    };
+    Search { scene, climb }.climbed(alloc, steps)
 }
 
 /// Searches a course stage by stage, each with a stronger table of bids, and from the second on with that of free hours.
-fn staged(
-    alloc: Global,
-    scene: Scene,
-    course: &mut Course,
-    limit: u64,
-) -> Result<Found, Memory> {
+fn staged(alloc: Global, scene: Scene, course: &mut Course) -> Result<Found, Memory> {
     let all = course.weights.len();
-    let mut left = limit;
     for (number, stage) in STAGES.iter().enumerate() {
         let bids = stage.bids.min(all).min(most_bids(course.len()));
         let table = course.bids(alloc, bids)?;
         if number > 0 {
             course.look_at_free_hours();
         }
-        let steps = stage.steps.min(left);
-        left = left.saturating_sub(steps);
-        match search_by(scene, course, &table).climbed(alloc, steps)? {
-            Found::Limit if left > 0 && (number == 0 || bids < all) => {}
+        match climbed_by(alloc, scene, course, &table, stage.steps)? {
+            Found::Limit if number == 0 || bids < all => {}
             found => return Ok(found),
         }
     }
@@ -267,6 +246,28 @@ fn course_for(
     }
 }
 
+/// Searches a course for what is asked.
+fn searched<'a>(
+    alloc: Global,
+    problem: &'a Problem,
+    kept: &'a Kept,
+    asked: &'a Asked<'a>,
+    lens: &'a Lens,
+    course: &mut Course,
+) -> Result<Found, Memory> {
+    let Some(sheet) = kept.courses().sheet(asked.member) else {
+        return Ok(Found::Limit);
+    };
+    let scene = Scene {
+        problem,
+        kept,
+        sheet,
+        asked,
+        lens,
+    };
+    staged(alloc, scene, course)
+}
+
 /// A line of the member above the bound that obeys the row and may serve the goal, or one that breaks a rule in a window which
 /// the lens may look at next.
 pub(crate) fn flat_over(
@@ -275,17 +276,13 @@ pub(crate) fn flat_over(
     kept: &mut Kept,
     asked: &Asked,
     lens: &Lens,
-    limit: u64,
 ) -> Result<Found, Memory> {
     let few = lately(alloc, lens)?;
     let Some(mut prepared) = course_for(alloc, problem, kept, asked, &few)? else {
         return Ok(Found::Nothing);
     };
     prepared.course.gain(asked.weights);
-    let Some(scene) = scene_of(problem, kept, asked, lens) else {
-        return Ok(Found::Limit);
-    };
-    let found = staged(alloc, scene, &mut prepared.course, limit)?;
+    let found = searched(alloc, problem, kept, asked, lens, &mut prepared.course)?;
     kept.courses_mut().keep(asked.member, prepared);
     Ok(found)
 }

@@ -4,7 +4,6 @@ ghost use Rattle.roster_model.specs.Goals.{IsGoal};
 
 use crate::board::Row;
 use crate::flat_pricing::{is_flat, price_flat};
-use crate::flat_search::Asked;
 use crate::kept::Kept;
 use crate::ladder::{first_lens, lately, look_at_lines, look_at_pairings, make_finer, refine};
 use crate::profiles::number;
@@ -225,14 +224,7 @@ pub fn price(
         return Ok(Priced::Nothing(lens));
     }
     if care == Care::Rough && is_flat(problem, kept, member, goal) {
-        let asked = Asked {
-            member,
-            goal,
-            row,
-            weights,
-            over,
-        };
-        return price_flat(alloc, problem, kept, &asked, care.steps());
+        return price_flat(alloc, problem, kept, member, goal, row, weights, over);
     }
     let lens = kept.lens(alloc, problem, member)?;
     let steps = care.steps();
@@ -280,14 +272,7 @@ pub fn price_afresh(
     requires goal { IsGoal problem.now goal.now }
 {
     if care == Care::Rough && is_flat(problem, kept, member, goal) {
-        let asked = Asked {
-            member,
-            goal,
-            row,
-            weights,
-            over,
-        };
-        return price_flat(alloc, problem, kept, &asked, care.steps());
+        return price_flat(alloc, problem, kept, member, goal, row, weights, over);
     }
     let before = kept.lens(alloc, problem, member)?;
     let lens = first_lens(alloc, problem, member);
