@@ -83,7 +83,9 @@ impl Blocks {
                 after: first_from(&reports, ready),
                 row: size,
             })?;
-            size = size.saturating_add(number.saturating_sub(first)).saturating_add(1);
+            size = size
+                .saturating_add(number.saturating_sub(first))
+                .saturating_add(1);
         }
         Ok(Blocks {
             reports,
@@ -131,7 +133,11 @@ impl Blocks {
             }
         }
         let own = self.at(number, number);
-        let passed = self.fresh.get(number.saturating_add(1)).copied().unwrap_or(0);
+        let passed = self
+            .fresh
+            .get(number.saturating_add(1))
+            .copied()
+            .unwrap_or(0);
         if let Some(fresh) = self.fresh.get_mut(number) {
             *fresh = own.max(passed);
         }

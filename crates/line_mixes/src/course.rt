@@ -72,12 +72,7 @@ pub(crate) fn weigh_bids(weights: &[u32], bids: u64) -> u32 {
 }
 
 /// What each state of the first wanted bids lets be gained at the end: nothing where too much is lost.
-fn ends_of(
-    alloc: Global,
-    weights: &[u32],
-    allowed: u32,
-    bids: usize,
-) -> Result<Vec<i64>, Memory> {
+fn ends_of(alloc: Global, weights: &[u32], allowed: u32, bids: usize) -> Result<Vec<i64>, Memory> {
     let mut lost: Vec<u32> = Vec::new(alloc);
     lost.push(0)?;
     for bid in 0..bids {

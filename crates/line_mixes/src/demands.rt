@@ -77,9 +77,8 @@ fn deciding(places: &[Place], bit: u64, spoils: bool) -> PairingSet {
 
 /// Adds a bid to those that the same pairings decide.
 fn add(all: &mut Vec<Wanted>, one: Wanted) -> Result<(), Memory> {
-    let like = all
-        .iter_mut()
-        .find(|other| other.spoils == one.spoils && other.pairings == one.pairings);
+    let like = all.iter_mut().find(|other| other.spoils == one.spoils
+        && other.pairings == one.pairings);
     match like {
         Some(other) => other.weight = other.weight.saturating_add(one.weight),
         None => all.push(one)?,
@@ -105,7 +104,11 @@ pub(crate) fn wanted_of(
         let spoils = sheet.wanting & bit == 0;
         let pairings = deciding(places, bit, spoils);
         let is_free = pairings == PairingSet::new();
-        let is_lost = if spoils { sheet.start & bit != 0 } else { is_free };
+        let is_lost = if spoils {
+            sheet.start & bit != 0
+        } else {
+            is_free
+        };
         if is_lost && !demand.lose(weight) {
             return Ok(None);
         }

@@ -57,7 +57,8 @@ impl Hours {
             if let Some(place) = places.get(count.saturating_sub(back)) {
                 let taking = place.taking(count);
                 let credit = place.flight.credit;
-                self.left.fill(back, taking, Change::Left(hours_down(credit)));
+                self.left
+                    .fill(back, taking, Change::Left(hours_down(credit)));
                 self.due.fill(back, taking, Change::Due(hours_up(credit)));
             }
         }

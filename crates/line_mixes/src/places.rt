@@ -164,12 +164,17 @@ impl Ahead {
     /// What may come where the place is passed, or where it is taken.
     fn joined(&self, then: &Ahead, own: &Place, days: u32) -> Ahead {
         let mut usage = self.usage;
-        for (most, (after, own)) in usage.iter_mut().zip(then.usage.iter().zip(own.usage.iter())) {
+        for (most, (after, own)) in usage
+            .iter_mut()
+            .zip(then.usage.iter().zip(own.usage.iter()))
+        {
             *most = (*most).max(after.saturating_add(*own));
         }
         Ahead {
             grants: self.grants | own.grants,
-            credit: self.credit.max(then.credit.saturating_add(own.flight.credit)),
+            credit: self
+                .credit
+                .max(then.credit.saturating_add(own.flight.credit)),
             days: self.days.max(then.days.saturating_add(days)),
             usage,
         }

@@ -64,7 +64,12 @@ pub(crate) fn broken(
 }
 
 /// What is known of the line but for the rule that it breaks.
-pub(crate) fn known_of(problem: &Problem, member: u32, line: &Line, pairings: PairingSet) -> Profile {
+pub(crate) fn known_of(
+    problem: &Problem,
+    member: u32,
+    line: &Line,
+    pairings: PairingSet,
+) -> Profile {
     let mut profile = Profile {
         pairings,
         grants: Granted::nothing(),
