@@ -34,6 +34,15 @@ fn first_from(reports: &[u32], minute: u32) -> usize {
     reports.partition_point(|report| *report < minute)
 }
 
+/// When the pairings of these places report; the last one is the end.
+fn reports_of(alloc: Global, places: &[Place]) -> Result<Vec<u32>, Memory> {
+    let mut reports: Vec<u32> = Vec::new(alloc);
+    for place in places.iter().take(places.len().saturating_sub(1)) {
+        reports.push(place.flight.span.start)?;
+    }
+    Ok(reports)
+}
+
 /// The last report of duties before there are free hours among them, and whether there are.
 #[derive(Clone, Copy)]
 struct Reports {
@@ -64,14 +73,10 @@ impl Reports {
 impl Blocks {
     /// The table of these places, the last of which is the end; what is gained is not filled in.
     pub(crate) fn new(alloc: Global, sheet: &Sheet, places: &[Place]) -> Result<Blocks, Memory> {
-        let count = places.len().saturating_sub(1);
-        let mut reports: Vec<u32> = Vec::new(alloc);
-        for place in places.iter().take(count) {
-            reports.push(place.flight.span.start)?;
-        }
+        let reports = reports_of(alloc, places)?;
         let mut spells: Vec<Spell> = Vec::new(alloc);
         let mut size: usize = 0;
-        for (number, place) in places.iter().take(count).enumerate() {
+        for (number, place) in places.iter().take(reports.len()).enumerate() {
             let duties = sheet.duties.get(place.flight.from..place.flight.to);
             let own = Reports::of(duties.unwrap_or(&[]));
             let begin = own.last.saturating_add(FREE).saturating_sub(WITHIN);

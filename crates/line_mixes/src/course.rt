@@ -71,19 +71,29 @@ pub(crate) fn weigh_bids(weights: &[u32], bids: u64) -> u32 {
     sum
 }
 
-/// What each state of the first wanted bids lets be gained at the end: nothing where too much is lost.
-fn ends_of(alloc: Global, weights: &[u32], allowed: u32, bids: usize) -> Result<Vec<i64>, Memory> {
+/// Adds the states in which a bid of this weight is lost too.
+fn add_lost(lost: &mut Vec<u32>, weight: u32) -> Result<(), Memory> {
+    for state in 0..lost.len() {
+        let without = lost.get(state).copied().unwrap_or(0);
+        lost.push(without.saturating_add(weight))?;
+    }
+    Ok(())
+}
+
+/// What is lost in each state of bids of these weights.
+fn all_lost(alloc: Global, weights: &[u32]) -> Result<Vec<u32>, Memory> {
     let mut lost: Vec<u32> = Vec::new(alloc);
     lost.push(0)?;
-    for bid in 0..bids {
-        let weight = weights.get(bid).copied().unwrap_or(0);
-        for state in 0..lost.len() {
-            let without = lost.get(state).copied().unwrap_or(0);
-            lost.push(without.saturating_add(weight))?;
-        }
+    for weight in weights {
+        add_lost(&mut lost, *weight)?;
     }
+    Ok(lost)
+}
+
+/// What each state lets be gained at the end: nothing can be where too much is lost.
+fn ends_of(alloc: Global, lost: &[u32], allowed: u32) -> Result<Vec<i64>, Memory> {
     let mut ends = Vec::new(alloc);
-    for sum in &lost {
+    for sum in lost {
         ends.push(if *sum > allowed { LOWEST } else { 0 })?;
     }
     Ok(ends)
@@ -155,6 +165,18 @@ impl Course {
         }
     }
 
+    /// Marks the places that decide a wanted bid.
+    fn mark(&mut self, one: &Wanted, bit: u64) {
+        for place in self.places.iter_mut() {
+            let is_deciding = one.pairings.contains(place.flight.pairing as usize);
+            if is_deciding && one.spoils {
+                place.spoils |= bit;
+            } else if is_deciding {
+                place.grants |= bit;
+            }
+        }
+    }
+
     /// Has the wanted bids, by bits in their order.
     fn add_bids(&mut self, wanted: &[Wanted]) -> Result<(), Memory> {
         for (bid, one) in wanted.iter().enumerate() {
@@ -168,15 +190,7 @@ impl Course {
             } else {
                 self.start.bids |= bit;
             }
-            for place in self.places.iter_mut() {
-                if one.pairings.contains(place.flight.pairing as usize) {
-                    if one.spoils {
-                        place.spoils |= bit;
-                    } else {
-                        place.grants |= bit;
-                    }
-                }
-            }
+            self.mark(one, bit);
         }
         Ok(())
     }
@@ -206,7 +220,9 @@ impl Course {
 
     /// The table that tells so many bids apart, the heaviest.
     pub(crate) fn bids(&self, alloc: Global, bids: usize) -> Result<Bids, Memory> {
-        let ends = ends_of(alloc, &self.weights, self.allowed, bids)?;
+        let bids = bids.min(self.weights.len());
+        let lost = all_lost(alloc, self.weights.get(0..bids).unwrap_or(&[]))?;
+        let ends = ends_of(alloc, &lost, self.allowed)?;
         let told = (1u64 << (bids % 64)).wrapping_sub(1);
         let mut table = Table::new(alloc, &ends, self.len())?;
         for back in 1..self.places.len() {

@@ -86,6 +86,13 @@ fn add(all: &mut Vec<Wanted>, one: Wanted) -> Result<(), Memory> {
     Ok(())
 }
 
+/// Lets no bid weigh more than this.
+fn limit(all: &mut [Wanted], most: u32) {
+    for one in all.iter_mut() {
+        one.weight = one.weight.min(most);
+    }
+}
+
 /// The bids that weigh something and that the open pairings decide, the heaviest first; none where too much is lost without
 /// them. What no pairing can grant is lost, and takes from what a line may lose.
 pub(crate) fn wanted_of(
@@ -123,10 +130,7 @@ pub(crate) fn wanted_of(
             )?;
         }
     }
-    let enough = demand.allowed.saturating_add(1);
-    for one in all.iter_mut() {
-        one.weight = one.weight.min(enough);
-    }
+    limit(&mut all, demand.allowed.saturating_add(1));
     all.sort_by_key(|one: &Wanted| u32::MAX.wrapping_sub(one.weight))?;
     Ok(Some(all))
 }
