@@ -282,7 +282,8 @@ pub(crate) fn flat_over(
         return Ok(Found::Nothing);
     };
     prepared.course.gain(asked.weights);
-    let found = searched(alloc, problem, kept, asked, lens, &mut prepared.course)?;
+    let course = &mut prepared.course;
+    let found = searched(alloc, &*problem, &*kept, &*asked, &*lens, course)?;
     kept.courses_mut().keep(asked.member, prepared);
     Ok(found)
 }
