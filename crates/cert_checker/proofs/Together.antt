@@ -17,7 +17,7 @@ use Rattle.roster_model.specs.Lenses.{IsLens, IsLensLine, IsBestWeight, HasNoLin
 use Rattle.roster_model.specs.Rosters.{need_of}
 use Rattle.roster_model.specs.Weights.{AreSmallWeights, weight_at, weight_of, sum_below, needed_weight, total}
 use Rattle.roster_model.proofs.Bounds.{ascending-length}
-use Rattle.line_generator.proofs.LineWeights.{small_at, weight_within}
+use Rattle.term_lines.proofs.LineWeights.{small_at, weight_within}
 use Rattle.cert_checker.specs.declared.refusal.ItemFault.TheVariants as fault
 use Rattle.cert_checker.specs.declared.refusal.StepFault.{StepFault}
 use Rattle.cert_checker.specs.declared.refusal.StepFault.TheVariants as step

@@ -11,7 +11,8 @@ use Rattle.label_lattice.specs.declared.tallies.Tally.{Tally}
 use Rattle.label_setter.specs.declared.graph.Arc.{Arc}
 use Rattle.label_setter.specs.Chains.{Leads, Reached, Takes}
 use Rattle.count_graphs.specs.CountGraphs.{counted_arc, counted_arcs}
-use Rattle.count_graphs.specs.CountLabels.{CountOf, CountStepOf, PartsOf, PartsStepOf, count_extend, counted_label, parts_extend}
+use Rattle.graph_climbs.specs.Parts.{PartsOf, PartsStepOf, parts_extend}
+use Rattle.count_graphs.specs.CountLabels.{CountOf, CountStepOf, count_extend, counted_label}
 
 -- what is left of what is wanted along arcs
 abbrev pub left_along : (ℕ → List ℕ) → List ℕ → List ℕ → List ℕ

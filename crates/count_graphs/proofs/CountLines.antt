@@ -30,7 +30,8 @@ use Rattle.line_lens.specs.LineGraphs.{line_along}
 use Rattle.take_graphs.specs.ArcLines.{StandsByArcs}
 use Rattle.count_graphs.specs.Counts.{AreCounted, AreSlots, amounts_of, counts_for, is_about, uncounted, wanted_by, wanted_of, wants}
 use Rattle.count_graphs.specs.CountGraphs.{IsCountGraph, counted_arcs}
-use Rattle.count_graphs.specs.CountLabels.{CountEndOf, CountOf, CountStepOf, PartsEndOf, PartsOf, PartsStepOf, count_done, count_extend, counted_label, parts_done, parts_extend}
+use Rattle.graph_climbs.specs.Parts.{PartsEndOf, PartsOf, PartsStepOf, parts_done, parts_extend}
+use Rattle.count_graphs.specs.CountLabels.{CountEndOf, CountOf, CountStepOf, count_done, count_extend, counted_label}
 use Rattle.count_graphs.proofs.CountChains.{arc_back, bare, done_back, done_on, leads_back, leads_on, left_along, wanted_in}
 use Rattle.count_graphs.proofs.Counted.{added_counts, along, each_none, left_is, none_each, weights_by, weights_long}
 

@@ -14,7 +14,8 @@ use Rattle.lens_classes.specs.TermLines.{is_counted}
 use Rattle.lens_classes.proofs.Bits.{not_in}
 use Rattle.count_graphs.specs.Counts.{AreSlots}
 use Rattle.count_graphs.specs.CountGraphs.{counted_arc, counted_arcs}
-use Rattle.count_graphs.specs.CountLabels.{CountStepOf, PartsStepOf}
+use Rattle.graph_climbs.specs.Parts.{PartsStepOf}
+use Rattle.count_graphs.specs.CountLabels.{CountStepOf}
 
 pub map_from_each : (f : ℕ → ℕ) (out slots : List ℕ) → length out ≡ length slots → ((k : ℕ) → k < length slots → get_or out k 0 ≡ f (get_or slots k 0)) → out ≡ map f slots
 map_from_each f [] [] long each = refl

@@ -5,7 +5,8 @@ use Rattle.label_setter.specs.declared.graph.Arc.{Arc}
 use Rattle.lens_classes.specs.declared.terms.Terms.{Terms}
 use Rattle.roster_model.specs.declared.problem.Problem.{Problem}
 use Rattle.count_graphs.specs.Counts.{AreSlots, amounts_of, wanted_of}
-use Rattle.count_graphs.specs.CountLabels.{CountEndOf, CountOf, CountStepOf, PartsEndOf, PartsOf, PartsStepOf, counted_label}
+use Rattle.graph_climbs.specs.Parts.{PartsEndOf, PartsOf, PartsStepOf}
+use Rattle.count_graphs.specs.CountLabels.{CountEndOf, CountOf, CountStepOf, counted_label}
 
 -- an arc with amounts in its step
 abbrev pub counted_arc : {S : Type 0} → List ℕ → Arc (PartsStepOf S) → Arc (CountStepOf S)

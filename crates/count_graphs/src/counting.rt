@@ -5,7 +5,8 @@ ghost use Rattle.roster_model.specs.declared.node.Decision.{Decision};
 ghost use Rattle.roster_model.specs.declared.proof.Lens.{Lens as LensOf};
 ghost use Rattle.take_graphs.specs.ArcLines.{StandsByArcs};
 ghost use Rattle.count_graphs.specs.Counts.{AreCounted, amounts_of, uncounted};
-ghost use Rattle.count_graphs.specs.CountLabels.{CountStepOf, PartsStepOf, count_done, count_extend, parts_done, parts_extend};
+ghost use Rattle.graph_climbs.specs.Parts.{PartsStepOf, parts_done, parts_extend};
+ghost use Rattle.count_graphs.specs.CountLabels.{CountStepOf, count_done, count_extend};
 ghost use Rattle.count_graphs.specs.CountGraphs.{IsCountGraph, counted_arc, counted_arcs};
 
 use crate::amounts::{amounts_of, wanted_of};

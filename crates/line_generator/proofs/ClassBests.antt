@@ -21,9 +21,10 @@ use Rattle.lens_classes.specs.Laws.{IsInClass}
 use Rattle.lens_classes.proofs.ClassLines.{passes_by_classes}
 use Rattle.count_graphs.proofs.FewCounted.{class_counts}
 use Rattle.line_generator.specs.declared.classes.Class.{Class}
-use Rattle.line_generator.specs.declared.price.PricedLine.{PricedLine}
+use Rattle.term_lines.specs.declared.priced.PricedLine.{PricedLine}
 use Rattle.line_generator.specs.ClassLines.{AllBelow, AllOfClass, AtMost, IsClassLine, IsClassOf, IsSpared, LosesImplied, heavier, spread}
-use Rattle.line_generator.specs.Questions.{IsQuestion, IsTermQuestion}
+use Rattle.term_lines.specs.Questions.{IsTermQuestion}
+use Rattle.line_generator.specs.Questions.{IsQuestion}
 use Rattle.line_generator.proofs.BidSets.{not_in, number_of, number_small, set_met}
 
 or_first : (a b : Bool) → a ≡ true → (a || b) ≡ true

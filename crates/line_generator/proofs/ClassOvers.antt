@@ -11,11 +11,12 @@ use Rattle.roster_model.specs.declared.proof.Lens.{Lens}
 use Rattle.roster_model.specs.Lenses.{IsLensLine, IsMostWeight}
 use Rattle.roster_model.specs.Weights.{weight_of}
 use Rattle.lens_classes.specs.Classes.{is_in}
-use Rattle.line_generator.specs.declared.above.Over.{Over}
-use Rattle.line_generator.specs.declared.above.Over.TheVariants.{Line, Nothing, Limit}
-use Rattle.line_generator.specs.declared.price.PricedLine.{PricedLine}
+use Rattle.term_lines.specs.declared.above.Over.{Over}
+use Rattle.term_lines.specs.declared.above.Over.TheVariants.{Line, Nothing, Limit}
+use Rattle.term_lines.specs.declared.priced.PricedLine.{PricedLine}
 use Rattle.line_generator.specs.ClassLines.{AllBelow, AllOfClass, raised, spread}
-use Rattle.line_generator.specs.Overs.{IfLine, over_of_best, with_answer}
+use Rattle.term_lines.specs.Overs.{IfLine}
+use Rattle.line_generator.specs.Overs.{over_of_best, with_answer}
 use Rattle.line_generator.proofs.ClassBests.{below_more}
 
 -- steps of so many classes, each with a limit

@@ -15,7 +15,7 @@ use Rattle.lens_classes.specs.Laws.{KeepsClass}
 use Rattle.lens_classes.specs.TermLines.{AreTermsOf}
 use Rattle.lens_classes.specs.declared.terms.Terms.{Terms}
 use Rattle.line_generator.specs.declared.classes.Class.{Class}
-use Rattle.line_generator.specs.declared.price.PricedLine.{PricedLine}
+use Rattle.term_lines.specs.declared.priced.PricedLine.{PricedLine}
 
 -- a wish on credit or days off that all lines grant which keep the terms
 pub record IsImpliedBy (wish : Wish) (terms : Terms) : Type 0 where

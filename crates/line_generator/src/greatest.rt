@@ -1,15 +1,14 @@
 //! The greatest weight over the classes of a lens.
-ghost use Rattle.std.specs.Prelude.{◌≡◌, ◌<◌, ◌≤◌, ◌⊎◌, ℤ, IfNone, IfOk, IfSome};
+ghost use Rattle.std.specs.Prelude.{◌≡◌, ◌<◌, IfNone, IfOk, IfSome};
 ghost use Rattle.roster_model.specs.Lenses.{HasNoLine, IsLensLine, IsMostWeight};
 ghost use Rattle.roster_model.specs.Weights.{weight_of};
 ghost use Rattle.lens_classes.specs.Classes.{is_in};
 ghost use Rattle.lens_classes.specs.TermLines.{HasNoTermLine, IsMostTermWeight, IsTermLine};
 ghost use Rattle.line_generator.specs.ClassLines.{AllOfClass, AtMost, heavier};
-ghost use Rattle.line_generator.specs.Questions.{IsQuestion, IsTermQuestion};
+ghost use Rattle.term_lines.specs.Questions.{IsTermQuestion};
+ghost use Rattle.line_generator.specs.Questions.{IsQuestion};
 
-use crate::bounded::heaviest_of_terms;
 use crate::classes::{class_lens, class_of};
-use crate::price::{PricedLine, best_of_terms};
 use crate::sets::{sets_of, spread, whole_bids};
 use crate::spared::is_spared;
 use duty_calendar::Memory;
@@ -18,6 +17,7 @@ use lens_classes::Terms;
 use roster_model::{Goal, Lens, Node, Problem};
 use std::alloc::Global;
 use std::sync::ledger::Ledger;
+use term_lines::{PricedLine, best_of_terms, heaviest_of_terms};
 
 /// How a best line is looked for.
 #[derive(Clone, Copy, PartialEq, Eq)]

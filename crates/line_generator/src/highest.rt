@@ -5,21 +5,21 @@ ghost use Rattle.roster_model.specs.Lenses.{HasNoLine, IsLensLine, IsMostWeight}
 ghost use Rattle.roster_model.specs.Weights.{weight_of};
 ghost use Rattle.lens_classes.specs.Classes.{is_in};
 ghost use Rattle.line_generator.specs.ClassLines.{AllOfClass, raised};
-ghost use Rattle.line_generator.specs.Overs.{IfLine, over_of_best, with_answer};
+ghost use Rattle.term_lines.specs.Overs.{IfLine};
+ghost use Rattle.line_generator.specs.Overs.{over_of_best, with_answer};
 ghost use Rattle.line_generator.specs.Questions.{IsQuestion};
 
-use crate::above::{Over, Wanted, over_of_terms};
 use crate::classes::{class_lens, class_of};
 use crate::greatest::{By, greatest_of_classes};
-use crate::price::PricedLine;
 use crate::sets::{sets_of, spread, whole_bids};
 use crate::spared::is_spared;
-use crate::stages::{LOWEST, MOST_STEPS};
 use duty_calendar::Memory;
+use graph_climbs::{LOWEST, MOST_STEPS};
 use label_lattice::Steps;
 use roster_model::{Goal, Lens, Node, Problem};
 use std::alloc::Global;
 use std::sync::ledger::Ledger;
+use term_lines::{Over, PricedLine, Wanted, over_of_terms};
 
 /// A line above the bound of the class that grants these bids.
 fn over_of_class<L: Ledger>(

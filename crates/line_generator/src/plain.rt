@@ -5,7 +5,7 @@ ghost use Rattle.roster_model.specs.Lenses.{IsLens, IsLensLine};
 ghost use Rattle.roster_model.specs.Weights.{AreSmallWeights};
 ghost use Rattle.roster_model.specs.declared.node.Decision.{Decision};
 ghost use Rattle.lens_classes.specs.TermLines.{AreTermsOf, IsTermLine};
-ghost use Rattle.line_generator.specs.Questions.{IsTermQuestion};
+ghost use Rattle.term_lines.specs.Questions.{IsTermQuestion};
 
 use lens_classes::Terms;
 use roster_model::{Goal, Lens, Node, Problem};

@@ -6,16 +6,17 @@ ghost use Rattle.roster_model.specs.Lenses.{IsLens, IsLensLine, IsMostWeight};
 ghost use Rattle.roster_model.specs.Weights.{AreSmallWeights, weight_of};
 ghost use Rattle.line_lens.specs.LensFaults.{IsLensFault};
 ghost use Rattle.line_lens.specs.declared.lens_fault.LensFault.{LensFault as Why};
-ghost use Rattle.line_generator.specs.Overs.{IfLine};
-ghost use Rattle.line_generator.specs.declared.above.Over.TheVariants.{Nothing};
+ghost use Rattle.term_lines.specs.Overs.{IfLine};
+ghost use Rattle.term_lines.specs.declared.above.Over.TheVariants.{Nothing};
 
-use crate::above::{Over, best_over, heaviest_over};
+use crate::above::{best_over, heaviest_over};
 use crate::best_fault::BestFault;
 use label_lattice::Steps;
 use roster_model::{Goal, Lens, Node, Problem};
 use std::alloc::Global;
 use std::marker::Brand;
 use std::sync::ledger::{Blank, Ledger};
+use term_lines::Over;
 
 /// The search, whose steps are counted from a blank on.
 fn over_from<L: Ledger>(

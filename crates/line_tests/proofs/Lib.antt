@@ -1,2 +1,2 @@
-pub mod Months
+pub mod Nodes
 pub mod Offers

@@ -1,16 +1,8 @@
-//! Worked rows of priced lines, of pools, of closers and of whole awards.
+//! Worked rows of priced lines and of pools.
 #![tactic(auto)]
 
 #[cfg(test)]
-mod awards;
-#[cfg(test)]
-mod closers;
-#[cfg(test)]
-mod june;
-#[cfg(test)]
 mod lines;
-#[cfg(test)]
-mod openings;
 #[cfg(test)]
 mod pools;
 #[cfg(test)]

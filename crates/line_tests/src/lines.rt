@@ -7,8 +7,8 @@ ghost use Rattle.roster_model.specs.Goals.{IsGoal, IsNode};
 ghost use Rattle.roster_model.specs.Lenses.{IsLens};
 ghost use Rattle.roster_model.specs.Weights.{AreSmallWeights};
 
-use crate::june::{contest, first_line, month, one, pairings, single, tenth, two_floors, with};
 use duty_calendar::{List, Memory, Pairing};
+use june_months::{contest, first_line, month, one, pairings, single, tenth, two_floors, with};
 use label_lattice::Steps;
 use lens_classes::{Terms, plain_terms};
 use line_generator::{
@@ -35,7 +35,7 @@ fn alone(alloc: Global, pairings: List<Pairing>, low: u32, high: u32) -> Result<
 }
 
 /// The decision that the second member does not fly the first pairing.
-#[tactic(auto, using(crate::proofs::Months::one_decision))]
+#[tactic(auto, using(crate::proofs::Nodes::one_decision))]
 fn grounded(alloc: Global, problem: &Problem) -> Result<Node, Memory>
     requires two { length problem.now.base.members ≡ 2 }
     requires one { length problem.now.base.pairings ≡ 1 }

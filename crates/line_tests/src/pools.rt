@@ -2,15 +2,15 @@
 ghost use Rattle.std.specs.Prelude.{◌≡◌, ◌<◌, IfOk, length};
 ghost use Rattle.roster_model.specs.Goals.{IsNode};
 
-use crate::june::{first_line, smallest};
 use column_pool::Pool;
 use duty_calendar::Memory;
+use june_months::{first_line, smallest};
 use roster_model::{Decision, Goal, Node, NodeFault, Problem};
 use std::alloc::Global;
 
 /// The decision that the first member does not fly the first pairing, and what a second one on the
 /// pair answers.
-#[tactic(auto, using(crate::proofs::Months::one_decision))]
+#[tactic(auto, using(crate::proofs::Nodes::one_decision))]
 fn grounded(alloc: Global, problem: &Problem) -> Result<(Node, bool), Memory>
     requires one_member { length problem.now.base.members ≡ 1 }
     requires one_pairing { length problem.now.base.pairings ≡ 1 }

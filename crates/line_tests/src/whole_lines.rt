@@ -8,8 +8,8 @@ ghost use Rattle.roster_model.specs.Goals.{IsBidOf, IsGoal};
 ghost use Rattle.roster_model.specs.Valid.{IsBid};
 ghost use Rattle.roster_model.specs.Weights.{AreSmallWeights};
 
-use crate::june::{month, one, pairings_of, single, with};
 use duty_calendar::{List, Memory, Pairing, Weekday};
+use june_months::{month, one, pairings_of, single, with};
 use label_lattice::Steps;
 use line_generator::{BestFault, Over, PricedLine, are_small, best, heaviest_over};
 use line_lens::{LensFault, check_lens};

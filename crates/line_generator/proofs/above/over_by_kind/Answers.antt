@@ -4,8 +4,8 @@ use Rattle.std.proofs.lemmas.Result.{IfOk-weaker}
 use Rattle.lens_classes.specs.TermLines.{IsMostTermWeight, IsTermLine}
 use Rattle.roster_model.specs.Lenses.{IsLensLine, IsMostWeight}
 use Rattle.roster_model.specs.Weights.{weight_of}
-use Rattle.line_generator.specs.declared.price.PricedLine.{PricedLine}
-use Rattle.line_generator.proofs.Overs.{line_more}
+use Rattle.term_lines.specs.declared.priced.PricedLine.{PricedLine}
+use Rattle.term_lines.proofs.Overs.{line_more}
 use Rattle.line_generator.proofs.above.over_by_kind.Goals as goal
 
 pub returns-clause-line : goal.returns-clause-line

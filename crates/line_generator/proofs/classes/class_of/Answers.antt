@@ -1,7 +1,7 @@
 use Rattle.std.proofs.Common.{◌≡◌, [], arith}
 use Rattle.lens_classes.specs.Classes.{is_in}
 use Rattle.line_generator.proofs.ClassBests.{loses_none}
-use Rattle.line_generator.proofs.FoundLines.{at_none, at_some}
+use Rattle.term_lines.proofs.FoundLines.{at_none, at_some}
 use Rattle.line_generator.proofs.Reaching.{out_of_reach}
 use Rattle.line_generator.proofs.ScarceBids.{scarce_none}
 use Rattle.line_generator.proofs.classes.class_of.Goals as goal

@@ -4,9 +4,9 @@ use Rattle.lens_classes.specs.Classes.{is_in}
 use Rattle.lens_classes.specs.TermLines.{HasNoTermLine, IsMostTermWeight, IsTermLine}
 use Rattle.roster_model.specs.Lenses.{IsLensLine}
 use Rattle.line_generator.specs.ClassLines.{AllOfClass, AtMost}
-use Rattle.line_generator.specs.declared.price.PricedLine.{PricedLine}
+use Rattle.term_lines.specs.declared.priced.PricedLine.{PricedLine}
 use Rattle.line_generator.proofs.ClassBests.{class_passes, most_of_class, ok_both, term_question}
-use Rattle.line_generator.proofs.FoundLines.{at_none, at_some, some_more}
+use Rattle.term_lines.proofs.FoundLines.{at_none, at_some, some_more}
 use Rattle.line_generator.proofs.greatest.best_of_class.Goals as goal
 
 pub returns-in_default-clause-most : goal.returns-in_default-clause-most

@@ -4,7 +4,7 @@ use Rattle.roster_model.specs.Lenses.{IsLensLine}
 use Rattle.roster_model.specs.Weights.{weight_of}
 use Rattle.lens_classes.specs.Classes.{is_in}
 use Rattle.line_generator.specs.ClassLines.{AllBelow, AtMost, heavier}
-use Rattle.line_generator.specs.declared.price.PricedLine.{PricedLine}
+use Rattle.term_lines.specs.declared.priced.PricedLine.{PricedLine}
 use Rattle.line_generator.proofs.ClassBests.{below_more, below_spared, few_whole, heavier_first, heavier_has, heavier_second, most_of_all, none_of_all}
 use Rattle.line_generator.proofs.greatest.greatest_of_classes.Goals as goal
 

@@ -1,6 +1,6 @@
 use Rattle.std.proofs.Common.{Ok, ap}
-use Rattle.line_generator.specs.declared.above.Over.{Over}
-use Rattle.line_generator.proofs.LineWeights.{none_heavy}
+use Rattle.term_lines.specs.declared.above.Over.{Over}
+use Rattle.term_lines.proofs.LineWeights.{none_heavy}
 use Rattle.line_generator.proofs.highest.heaviest_of_classes.Goals as goal
 
 pub returns-in-Nothing-clause-none : goal.returns-in-Nothing-clause-none

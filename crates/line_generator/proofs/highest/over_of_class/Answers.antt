@@ -6,10 +6,10 @@ use Rattle.lens_classes.specs.TermLines.{IsMostTermWeight, IsTermLine}
 use Rattle.roster_model.specs.Lenses.{IsLensLine}
 use Rattle.roster_model.specs.Weights.{weight_of}
 use Rattle.line_generator.specs.ClassLines.{AllOfClass}
-use Rattle.line_generator.specs.declared.price.PricedLine.{PricedLine}
+use Rattle.term_lines.specs.declared.priced.PricedLine.{PricedLine}
 use Rattle.line_generator.proofs.ClassBests.{class_keeps, class_passes, term_question}
-use Rattle.line_generator.proofs.FoundLines.{at_none, at_some}
-use Rattle.line_generator.proofs.Overs.{line_more}
+use Rattle.term_lines.proofs.FoundLines.{at_none, at_some}
+use Rattle.term_lines.proofs.Overs.{line_more}
 use Rattle.line_generator.proofs.highest.over_of_class.Goals as goal
 
 pub returns-in_default-clause-none : goal.returns-in_default-clause-none

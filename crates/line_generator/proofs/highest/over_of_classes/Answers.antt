@@ -6,10 +6,10 @@ use Rattle.roster_model.specs.Lenses.{IsLensLine, IsMostWeight}
 use Rattle.roster_model.specs.Weights.{weight_of}
 use Rattle.lens_classes.specs.Classes.{is_in}
 use Rattle.line_generator.specs.ClassLines.{AllBelow, AllOfClass, raised}
-use Rattle.line_generator.specs.Overs.{IfLine}
-use Rattle.line_generator.specs.declared.above.Over.{Over}
-use Rattle.line_generator.specs.declared.above.Over.TheVariants.{Nothing, Limit}
-use Rattle.line_generator.specs.declared.price.PricedLine.{PricedLine}
+use Rattle.term_lines.specs.Overs.{IfLine}
+use Rattle.term_lines.specs.declared.above.Over.{Over}
+use Rattle.term_lines.specs.declared.above.Over.TheVariants.{Nothing, Limit}
+use Rattle.term_lines.specs.declared.priced.PricedLine.{PricedLine}
 use Rattle.line_generator.proofs.ClassBests.{below_all, below_spared, few_whole}
 use Rattle.line_generator.proofs.ClassOvers.{above_first, answer_has, below_answer, end_has, end_most, end_none, end_told, line_if, line_never, steps_at_end, steps_within}
 use Rattle.line_generator.proofs.highest.over_of_classes.Goals as goal

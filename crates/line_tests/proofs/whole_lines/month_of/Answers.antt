@@ -1,4 +1,4 @@
-use Rattle.line_tests.proofs.Months.{bids_of_one}
+use Rattle.june_months.proofs.Held.{bids_of_one}
 use Rattle.line_tests.proofs.whole_lines.month_of.Goals as goal
 
 pub month-requires-clause-each_bid : goal.month-requires-clause-each_bid

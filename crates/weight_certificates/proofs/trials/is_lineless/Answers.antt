@@ -1,6 +1,6 @@
 use Rattle.std.proofs.Common.{◌≡◌, length, ap, refl, Ok, arith, pos, rules}
 use Rattle.std.specs.Prelude.{replicate}
-use Rattle.line_generator.specs.declared.above.Over.{Over}
+use Rattle.term_lines.specs.declared.above.Over.{Over}
 use Rattle.weight_certificates.proofs.Raised.{none_above, zeros_at}
 use Rattle.weight_certificates.proofs.trials.is_lineless.Goals as goal
 

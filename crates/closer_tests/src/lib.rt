@@ -1,0 +1,9 @@
+//! Worked rows of closers and of whole awards.
+#![tactic(auto)]
+
+#[cfg(test)]
+mod awards;
+#[cfg(test)]
+mod closers;
+#[cfg(test)]
+mod openings;

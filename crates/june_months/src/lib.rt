@@ -1,0 +1,9 @@
+//! June 2026 in Dublin, for worked rows: pairings, members, bids and months of them.
+#![tactic(auto)]
+
+mod months;
+
+pub use months::{
+    contest, first_line, first_pairing, month, no_pairing, one, pair, pairings, pairings_of,
+    rivals, shared, shift, single, smallest, tenth, two_floors, with, with_pairing,
+};

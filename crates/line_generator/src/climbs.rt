@@ -1,0 +1,57 @@
+//! The heaviest line that passes a lens, by climbs above bounds.
+ghost use Rattle.std.specs.Prelude.{◌≡◌, ◌<◌, ◌^◌, IfNone, IfOk, IfSome, IsErrOf, OnOk, length};
+ghost use Rattle.roster_model.specs.Goals.{IsGoal, IsNode};
+ghost use Rattle.roster_model.specs.Lenses.{HasNoLine, IsLens, IsLensLine, IsMostWeight};
+ghost use Rattle.roster_model.specs.Weights.{AreSmallWeights, weight_of};
+ghost use Rattle.line_lens.specs.LensFaults.{IsLensFault};
+ghost use Rattle.line_lens.specs.declared.lens_fault.LensFault.{LensFault as Why};
+
+use crate::best_fault::BestFault;
+use crate::highest::heaviest_of_classes;
+use crate::plain::plain_terms;
+use label_lattice::Steps;
+use line_lens::check_lens;
+use roster_model::{Goal, Lens, Node, Problem};
+use std::alloc::Global;
+use std::sync::ledger::Ledger;
+use term_lines::{PricedLine, heaviest_of_terms};
+
+/// As `best`, by searches above bounds that know the floor and the credit: milliseconds where labels alone may take
+/// minutes. How many steps it takes is not promised.
+pub fn heaviest<L: Ledger>(
+    alloc: Global,
+    problem: &Problem,
+    member: u32,
+    goal: &Goal,
+    node: &Node,
+    lens: &Lens,
+    weights: &[i64],
+    steps: &mut Steps<L>,
+) -> Result<Option<PricedLine>, BestFault>
+    requires member_in_range { member < length problem.now.base.members }
+    requires goal { IsGoal problem.now goal.now }
+    requires node { IsNode problem.now node.now }
+    requires listed { length lens.now.windows < 2 ^ 32 }
+    requires per_pairing { length weights.now ≡ length problem.now.base.pairings }
+    requires small { AreSmallWeights weights.now }
+    ensures shape { OnOk result (IsLens problem.now member lens.now) }
+    ensures fault { (why : Why) → IsErrOf result (BestFault.Lens why)
+        → IsLensFault problem.now member lens.now why }
+    ensures line { IfOk result (λ answer. IfSome answer
+        (λ b. IsLensLine problem.now member goal.now node.now lens.now b.line)) }
+    ensures weight { IfOk result (λ answer. IfSome answer
+        (λ b. weight_of weights.now b.line ≡ b.weight)) }
+    ensures most { IfOk result (λ answer. IfSome answer
+        (λ b. IsMostWeight problem.now member goal.now node.now lens.now weights.now b.weight)) }
+    ensures none { IfOk result (λ answer. IfNone answer
+        (HasNoLine problem.now member goal.now node.now lens.now)) }
+{
+    if let Err(why) = check_lens(problem, member, lens) {
+        return Err(BestFault::Lens(why));
+    }
+    if lens.whole {
+        return Ok(heaviest_of_classes(alloc, problem, member, goal, node, lens, weights, steps)?);
+    }
+    let terms = plain_terms(problem, member, goal, node, lens, weights);
+    Ok(heaviest_of_terms(alloc, problem, member, &terms, node, lens, weights, steps)?)
+}

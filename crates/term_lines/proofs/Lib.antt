@@ -1,0 +1,9 @@
+pub mod ChainLines
+pub mod StepBound
+pub mod FoundLines
+pub mod HourLenses
+pub mod LineWeights
+pub mod Overs
+pub mod SlackLaws
+pub mod SlackRows
+pub mod CountOrders

@@ -1,0 +1,4 @@
+pub mod Questions
+pub mod Overs
+pub mod Counting
+pub mod Slacks
