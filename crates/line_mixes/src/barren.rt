@@ -1,6 +1,6 @@
 //! Members that are known to have no line above a bound.
 
-use crate::kept::{bid_asked, floor_of};
+use crate::profiles::{bid_asked, floor_of};
 use duty_calendar::{Copied, Memory};
 use roster_model::{Goal, Lens};
 use std::alloc::Global;

@@ -6,7 +6,7 @@ use roster_model::{Node, Problem};
 use std::alloc::Global;
 
 /// What a member is decided to fly, and not to fly.
-#[derive(Clone, Copy)]
+#[derive(Clone, Copy, PartialEq, Eq)]
 pub struct Row {
     pub flown: PairingSet,
     pub barred: PairingSet,

@@ -1,6 +1,7 @@
 //! Lenses that look at more and more.
 
-use crate::kept::{bid_asked, bit_of, floor_of};
+use crate::profiles::{bid_asked, bit_of, floor_of};
+use crate::sizes::WINDOWS;
 use duty_calendar::{List, Member, Memory};
 use line_legality::Illegal;
 use roster_model::{Bid, Goal, Lens, Problem, Window, WindowKind, Wish};
@@ -8,9 +9,6 @@ use std::alloc::Global;
 
 /// How many windows a lens may look at.
 const MOST_WINDOWS: usize = 16;
-
-/// With how many windows a search begins at most: labels that count more are dear.
-const FIRST_WINDOWS: usize = 4;
 
 /// How many bids that only a whole line decides a lens may track.
 const MOST_WHOLE: u32 = 6;
@@ -107,6 +105,11 @@ fn tracked_of(problem: &Problem, member: usize, goal: &Goal) -> u64 {
     }
 }
 
+/// Whether bids about whole lines matter for the goal.
+pub(crate) fn is_decided_by_lines(problem: &Problem, member: usize, goal: &Goal) -> bool {
+    tracked_of_line(problem, member, goal) != 0
+}
+
 /// Lets the lens look at pairings one by one.
 pub(crate) fn look_at_pairings(problem: &Problem, member: usize, goal: &Goal, lens: &mut Lens) {
     lens.tracked = tracked_of(problem, member, goal);
@@ -151,7 +154,7 @@ pub fn first_lenses(alloc: Global, problem: &Problem) -> Result<List<Lens>, Memo
 /// The lens once more, with the last few of its windows.
 pub(crate) fn lately(alloc: Global, lens: &Lens) -> Result<Lens, Memory> {
     let all = lens.windows.as_slice();
-    let from = all.len().saturating_sub(FIRST_WINDOWS);
+    let from = all.len().saturating_sub(WINDOWS);
     let mut windows = List::new(alloc);
     for window in all.get(from..).unwrap_or(&[]) {
         if windows.push(*window).is_err() {

@@ -1,7 +1,8 @@
 //! Mixes of kept lines that come near to the needs. What they miss makes weights.
 
 use crate::columns::Columns;
-use crate::kept::{Flat, Kept};
+use crate::kept::Kept;
+use crate::listed::Listed;
 use crate::program::Program;
 use duty_calendar::Memory;
 use roster_model::Problem;
@@ -63,7 +64,7 @@ struct Level {
 }
 
 /// Of these lines, the one that is least above the needs.
-fn scarcest(lines: &Flat, places: &[usize], misses: &[i64]) -> Level {
+fn scarcest(lines: &Listed, places: &[usize], misses: &[i64]) -> Level {
     let mut least = Level {
         at: usize::MAX,
         above: i64::MAX,
@@ -78,7 +79,7 @@ fn scarcest(lines: &Flat, places: &[usize], misses: &[i64]) -> Level {
 }
 
 /// Of the shares, by their places among these, the one whose line is least above the needs, and the one whose line is most.
-fn extremes(lines: &Flat, shares: &[Share], misses: &[i64]) -> (Level, Level) {
+fn extremes(lines: &Listed, shares: &[Share], misses: &[i64]) -> (Level, Level) {
     let mut least = Level {
         at: 0,
         above: i64::MAX,

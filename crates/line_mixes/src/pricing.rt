@@ -3,8 +3,10 @@ ghost use Rattle.std.specs.Prelude.{◌≡◌};
 ghost use Rattle.roster_model.specs.Goals.{IsGoal};
 
 use crate::board::Row;
-use crate::kept::{Kept, number};
+use crate::flat_pricing::{is_flat, price_flat};
+use crate::kept::Kept;
 use crate::ladder::{first_lens, lately, look_at_lines, look_at_pairings, make_finer, refine};
+use crate::profiles::number;
 use crate::tested::row_over;
 use duty_calendar::Memory;
 use line_generator::{Over, PricedLine};
@@ -221,6 +223,9 @@ pub fn price(
     if let Some(lens) = known_lens(alloc, kept, member, goal, weights, over, care)? {
         return Ok(Priced::Nothing(lens));
     }
+    if care == Care::Rough && is_flat(problem, kept, member, goal) {
+        return price_flat(alloc, problem, kept, member, goal, row, weights, over);
+    }
     let lens = kept.lens(alloc, problem, member)?;
     let steps = care.steps();
     price_from(
@@ -266,6 +271,9 @@ pub fn price_afresh(
 ) -> Result<Priced, Memory>
     requires goal { IsGoal problem.now goal.now }
 {
+    if care == Care::Rough && is_flat(problem, kept, member, goal) {
+        return price_flat(alloc, problem, kept, member, goal, row, weights, over);
+    }
     let before = kept.lens(alloc, problem, member)?;
     let lens = first_lens(alloc, problem, member);
     let steps = care.steps();

@@ -1,8 +1,9 @@
 //! Programs: shares of lines that miss the needs by least, and what pairings are worth there. Their numbers are near ones.
 
 use crate::columns::Columns;
-use crate::kept::{Kept, number};
+use crate::kept::Kept;
 use crate::mix::{Mix, Share, WHOLE};
+use crate::profiles::number;
 use duty_calendar::Memory;
 use roster_model::Problem;
 use std::alloc::Global;

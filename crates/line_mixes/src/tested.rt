@@ -3,7 +3,7 @@ ghost use Rattle.std.specs.Prelude.{◌≡◌, ◌<◌, IfOk, length};
 ghost use Rattle.roster_model.specs.Goals.{IsGoal, IsNode};
 
 use crate::board::Row;
-use crate::kept::is_member;
+use crate::profiles::is_member;
 use duty_calendar::Memory;
 use line_generator::{BestFault, Over, are_small, line_over};
 use roster_model::{BidRef, Decision, Goal, Lens, Node, NodeFault, Problem};
