@@ -2,17 +2,13 @@
 
 use crate::guide::MixGuide;
 use duty_calendar::{Copied, Memory};
-use line_mixes::{Board, Care, Columns, Kept, Mix, Program};
-use roster_guesses::program_of;
+use line_mixes::{Board, Care, Columns, Kept, Mix, Program, rows};
+use roster_guesses::{CHANGES, MOST_ROWS, program_of};
 use roster_model::{Awarded, Goal, Item, Line, Problem, Proof, Roster};
 use std::alloc::Global;
 
-/// How much may be missed by a program that counts as solved.
+/// How much may be missed by kept lines that count as mixed, of one line.
 const LITTLE: f64 = 0.01;
-/// How many rows a program may have that is solved just for a guess.
-const MOST_ROWS: usize = 300;
-/// How often something may come into a program in one go.
-const MOST_CHANGES: u32 = 20_000;
 
 /// The weights of the first leaf of the proof that has some; none where no leaf has any.
 fn weights_of(alloc: Global, proof: &Proof) -> Result<Vec<i64>, Memory> {
@@ -87,7 +83,7 @@ pub(crate) fn is_mixed(
         return Ok(false);
     };
     let mut program = program_of(alloc, problem, kept, &columns, warm)?;
-    program.solve(alloc, kept, &columns, MOST_CHANGES, LITTLE)?;
+    program.solve(alloc, kept, &columns, CHANGES, LITTLE)?;
     let is_solved = program.misses() <= LITTLE;
     kept.keep_program(program);
     Ok(is_solved)
@@ -96,8 +92,7 @@ pub(crate) fn is_mixed(
 impl MixGuide {
     /// Whether it is worth a look what kept lines can be mixed for: they were learned, and a program of them is not large.
     pub(crate) fn may_mix(&self, problem: &Problem) -> bool {
-        let (members, pairings) = (problem.base.members.len(), problem.base.pairings.len());
-        !self.learned.is_empty() && members.saturating_add(pairings) <= MOST_ROWS
+        !self.learned.is_empty() && rows(problem) <= MOST_ROWS
     }
 
     /// Keeps the lines of a roster that was judged to be complete.
@@ -108,7 +103,9 @@ impl MixGuide {
         roster: &Roster,
     ) -> Result<(), Memory> {
         for (member, line) in roster.as_slice().iter().enumerate() {
-            self.kept.keep_legal(problem, member, line.copy(alloc)?)?;
+            self.finder
+                .kept
+                .keep_legal(problem, member, line.copy(alloc)?)?;
         }
         Ok(())
     }
@@ -150,8 +147,8 @@ impl MixGuide {
         self.keep_shown(alloc, problem, awarded)?;
         self.keep_lines(alloc, problem, roster)?;
         self.keep_weights(alloc, awarded.proofs.as_slice())?;
-        self.kept.hold_dear(0, 0);
-        self.known.add(alloc, problem, roster)
+        self.finder.kept.hold_dear(0, 0);
+        self.finder.known.add(alloc, problem, roster)
     }
 
     /// Keeps a line of the member that was found elsewhere.
@@ -162,7 +159,8 @@ impl MixGuide {
         member: u32,
         line: &Line,
     ) -> Result<(), Memory> {
-        self.kept
+        self.finder
+            .kept
             .keep(alloc, problem, member as usize, line.copy(alloc)?)?;
         Ok(())
     }
@@ -181,7 +179,7 @@ impl MixGuide {
             return Ok(());
         }
         let weights = Vec::from_slice(alloc, learned)?;
-        let mix = mix_with(alloc, problem, &self.kept, weights)?;
+        let mix = mix_with(alloc, problem, &self.finder.kept, weights)?;
         self.keep_warm(mix, None);
         Ok(())
     }

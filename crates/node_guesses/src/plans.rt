@@ -3,20 +3,14 @@ ghost use Rattle.std.specs.Prelude.{◌≡◌};
 ghost use Rattle.roster_model.specs.Goals.{IsGoal};
 
 use crate::guess::{bounded_of, mixed_of};
-use crate::guide::{MIXES, MixGuide};
+use crate::guide::MixGuide;
 use crate::pairs::branch_pair;
 use closer_guide::Guess;
 use duty_calendar::Memory;
 use line_mixes::{Board, Care, Kept, Mix, Priced, number, price};
-use roster_guesses::{Relaxed, plainer, relax};
+use roster_guesses::{Effort, PLANNED, Relaxed, SPLITS, plainer, relax};
 use roster_model::{Decision, Goal, Node, Problem};
 use std::alloc::Global;
-
-/// How many nodes a tree may have: those that are split, and their leaves.
-const MOST_NODES: usize = 25;
-
-/// How many nodes are split at most.
-const MOST_SPLITS: usize = 12;
 
 /// A guess at the node of so many decisions.
 #[derive(Drop)]
@@ -82,7 +76,7 @@ impl Tree {
             Planning::Split(guess, decision) => {
                 self.push(guess)?;
                 self.splits = self.splits.saturating_add(1);
-                if self.splits > MOST_SPLITS || self.node.decide(decision).is_err() {
+                if self.splits > SPLITS || self.node.decide(decision).is_err() {
                     return Ok(Going::Lost);
                 }
                 Ok(Going::On)
@@ -170,8 +164,8 @@ impl MixGuide {
         board: &Board,
         mix: Mix,
     ) -> Result<Planning, Memory> {
-        let pair = branch_pair(alloc, problem, &self.kept, goal, board, &mix)?;
-        let mixed = mixed_of(alloc, problem, &self.kept, &mix, pair)?;
+        let pair = branch_pair(alloc, problem, &self.finder.kept, goal, board, &mix)?;
+        let mixed = mixed_of(alloc, problem, &self.finder.kept, &mix, pair)?;
         self.mixes.push(mix)?;
         let Some((member, pairing)) = pair else {
             return Ok(Planning::Lost);
@@ -196,12 +190,12 @@ impl MixGuide {
         requires goal { IsGoal problem.now goal.now }
     {
         self.mixes.truncate(depth);
-        let kept = &mut self.kept;
+        let kept = &mut self.finder.kept;
         if is_decided(alloc, problem, kept, goal, board)? {
             return Ok(Planning::Decided);
         }
         let warm = self.mixes.last();
-        let relaxed = relax(alloc, problem, kept, goal, board, warm, MIXES, Care::Plain)?;
+        let relaxed = relax(alloc, problem, kept, goal, board, warm, Effort::planned())?;
         let mix = match relaxed {
             Relaxed::Open(mix) => mix,
             Relaxed::Bounded(leaf) => {
@@ -231,7 +225,7 @@ impl MixGuide {
             plan: Vec::new(alloc),
             splits: 0,
         };
-        for _ in 0..MOST_NODES {
+        for _ in 0..PLANNED {
             let board = Board::of(alloc, problem, &tree.node)?;
             let planning = self.planned(alloc, problem, goal, &board, tree.node.len())?;
             match tree.add(planning)? {

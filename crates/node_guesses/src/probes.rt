@@ -2,11 +2,10 @@
 
 use duty_calendar::Memory;
 use line_mixes::{Board, Care, Columns, Kept, Mix, Program};
+use roster_guesses::PROBE_CHANGES;
 use roster_model::{Goal, Problem};
 use std::alloc::Global;
 
-/// How often something may come into a program.
-const MOST_CHANGES: u32 = 400;
 /// What is missed where a member has no line that is kept.
 const ALL: f64 = 1.0;
 /// More than this counts as so much: either closes the side.
@@ -70,7 +69,7 @@ fn missed(
         Program::begun(alloc, problem, kept, &columns, Some(mix))?
     };
     program.go_on(alloc, &columns)?;
-    program.solve(alloc, kept, &columns, MOST_CHANGES, LITTLE)?;
+    program.solve(alloc, kept, &columns, PROBE_CHANGES, LITTLE)?;
     Ok(program.misses())
 }
 

@@ -2,9 +2,10 @@
 ghost use Rattle.std.specs.Prelude.{◌<◌, length};
 
 use crate::climb::Climb;
-use crate::floors::{goal_of, level_of};
+use crate::floors::goal_of;
 use crate::guide::MixGuide;
 use crate::levels::levels;
+use crate::ranges::level_of;
 use closer_guide::FloorGuess;
 use duty_calendar::{Copied, Memory};
 use roster_guesses::{Relaxed, is_worth_while};
@@ -21,7 +22,7 @@ impl MixGuide {
     /// Whether the top level may be looked at roughly: the last place reached its own, searches are short, and no award was
     /// learned, with whose weights a root is closed at once.
     fn may_be_lucky(&self, problem: &Problem) -> bool {
-        self.is_lucky && self.learned.is_empty() && !is_worth_while(problem, &self.kept)
+        self.is_lucky && self.learned.is_empty() && !is_worth_while(problem, &self.finder.kept)
     }
 
     /// Looks for rosters behind these scores for the first time: roughly at the top level, where the last place reached its

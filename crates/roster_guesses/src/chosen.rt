@@ -1,18 +1,18 @@
 //! Kept lines that may be chosen, and rosters of chosen ones.
 
+use crate::limits::{HEAVIEST, NEWEST};
+use crate::ranking::{Ranked, Ranking, leave_best};
 use crate::wholes::append;
 use duty_calendar::{List, Memory};
-use line_mixes::{Board, Kept, Mix, PairingSet, Row};
+use line_mixes::{Board, Kept, Mix, PairingSet, Row, is_large};
 use roster_model::{Goal, Problem, Roster};
 use std::alloc::Global;
 
-/// How many lines of a member may be chosen, the newest ones.
-const MOST_LINES: usize = 2000;
-
-/// A kept line by its member and number, with its share in a mix, its pairings and their credit.
+/// A kept line by its member and number, with its share in a mix, what it weighs there, its pairings and their credit.
 #[derive(Clone, Copy)]
 pub(crate) struct Choice {
     share: i64,
+    weight: i64,
     pub member: usize,
     pub place: usize,
     pub pairings: PairingSet,
@@ -35,46 +35,57 @@ pub(crate) fn obeys(row: &Row, pairings: &PairingSet) -> bool {
     row.flown.is_within(pairings) && !row.barred.meets(pairings)
 }
 
-/// The share of a line in the mix.
-fn share_of(mix: &Mix, member: usize, place: usize) -> i64 {
-    for share in mix.shares(member) {
-        if share.place == place {
-            return share.part;
-        }
-    }
-    0
-}
-
-/// Adds the newest lines of the member that serve and obey the board.
-fn add_lines(
+/// The newest lines of the member that serve and obey the board; in a large month the best of these alone.
+fn lines_of(
+    alloc: Global,
     problem: &Problem,
     kept: &Kept,
     goal: &Goal,
     board: &Board,
-    mix: &Mix,
+    ranking: Ranking,
     member: usize,
-    choices: &mut Vec<Choice>,
-) -> Result<(), Memory> {
+) -> Result<Vec<Ranked>, Memory> {
     let row = board.row(member);
-    let most = choices.len().saturating_add(MOST_LINES);
+    let mut lines = Vec::new(alloc);
     for place in (0..kept.len(member)).rev() {
         let Some(profile) = kept.profile(member, place) else {
             continue;
         };
-        if choices.len() < most && obeys(&row, &profile.pairings) && profile.serves(goal, member) {
-            choices.push(Choice {
-                share: share_of(mix, member, place),
-                member,
-                place,
-                pairings: profile.pairings,
-                credit: credit_of(problem, kept.pairings(member, place)),
-            })?;
+        if lines.len() < NEWEST && obeys(&row, &profile.pairings) && profile.serves(goal, member) {
+            lines.push(ranking.rank(kept, member, place))?;
         }
+    }
+    if is_large(problem) {
+        leave_best(&mut lines, HEAVIEST);
+    }
+    Ok(lines)
+}
+
+/// Adds these lines of the member.
+fn add_lines(
+    problem: &Problem,
+    kept: &Kept,
+    member: usize,
+    lines: &[Ranked],
+    choices: &mut Vec<Choice>,
+) -> Result<(), Memory> {
+    for line in lines {
+        let Some(profile) = kept.profile(member, line.place) else {
+            continue;
+        };
+        choices.push(Choice {
+            share: line.share,
+            weight: line.weight,
+            member,
+            place: line.place,
+            pairings: profile.pairings,
+            credit: credit_of(problem, kept.pairings(member, line.place)),
+        })?;
     }
     Ok(())
 }
 
-/// The lines that may be chosen, those of small share and early number first.
+/// The lines that may be chosen, those of small share first, and of these the early ones, or in a large month the light ones.
 pub(crate) fn choices(
     alloc: Global,
     problem: &Problem,
@@ -84,10 +95,20 @@ pub(crate) fn choices(
     mix: &Mix,
 ) -> Result<Vec<Choice>, Memory> {
     let mut choices = Vec::new(alloc);
+    let weights = mix.weights(alloc)?;
+    let ranking = Ranking {
+        mix,
+        weights: &weights,
+    };
     for member in 0..problem.base.members.len() {
-        add_lines(problem, kept, goal, board, mix, member, &mut choices)?;
+        let lines = lines_of(alloc, problem, kept, goal, board, ranking, member)?;
+        add_lines(problem, kept, member, &lines, &mut choices)?;
     }
-    choices.sort_unstable_by_key(|choice| (choice.share, choice.place));
+    if is_large(problem) {
+        choices.sort_unstable_by_key(|choice| (choice.share, choice.weight, choice.place));
+    } else {
+        choices.sort_unstable_by_key(|choice| (choice.share, choice.place));
+    }
     Ok(choices)
 }
 

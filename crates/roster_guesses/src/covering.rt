@@ -3,14 +3,11 @@
 
 use crate::chosen::{Choice, choices, roster_of};
 use crate::crewing::{Crewing, scarce};
-use crate::remainder::flies_rest;
+use crate::limits::TURNS;
 use duty_calendar::Memory;
 use line_mixes::{Board, Kept, Mix};
 use roster_model::{Goal, Problem, Roster};
 use std::alloc::Global;
-
-/// How often a line is chosen at most.
-const MOST_TURNS: u32 = 1_000_000;
 
 /// The lines that go with what is chosen so far; those of them that are tried here, the next one last; and which one is
 /// chosen here now.
@@ -23,11 +20,11 @@ struct Layer {
 
 /// How far the choosing has come, and how many more steps it may take.
 #[derive(Drop)]
-struct Choosing {
-    choices: Vec<Choice>,
+pub(crate) struct Choosing {
+    pub choices: Vec<Choice>,
     layers: Vec<Layer>,
-    crewing: Crewing,
-    steps: usize,
+    pub crewing: Crewing,
+    pub steps: usize,
 }
 
 impl Choosing {
@@ -90,19 +87,7 @@ impl Choosing {
     ) -> Result<bool, Memory> {
         let mut tries = Vec::new(alloc);
         if self.crewing.count_left() == 2 {
-            let crewing = &mut self.crewing;
-            let steps = &mut self.steps;
-            if flies_rest(
-                alloc,
-                problem,
-                kept,
-                goal,
-                board,
-                &self.choices,
-                &left,
-                crewing,
-                steps,
-            )? {
+            if self.flies_rest(alloc, problem, kept, goal, board, &left)? {
                 return Ok(true);
             }
         } else {
@@ -146,7 +131,7 @@ fn numbers(alloc: Global, count: usize) -> Result<Vec<usize>, Memory> {
 
 /// A roster that meets the goal and obeys the board, of lines that are kept but for one: those of greatest share in the mix
 /// are tried first. None where so many steps do not suffice.
-pub fn cover(
+pub(crate) fn cover(
     alloc: Global,
     problem: &Problem,
     kept: &mut Kept,
@@ -155,7 +140,7 @@ pub fn cover(
     mix: &Mix,
     steps: usize,
 ) -> Result<Option<Roster>, Memory> {
-    if problem.base.members.len() < 2 {
+    if steps == 0 || problem.base.members.len() < 2 {
         return Ok(None);
     }
     let choices = choices(alloc, problem, kept, goal, board, mix)?;
@@ -167,7 +152,7 @@ pub fn cover(
         steps,
     };
     let mut is_found = choosing.open(alloc, problem, kept, goal, board, all)?;
-    for _ in 0..MOST_TURNS {
+    for _ in 0..TURNS {
         if is_found {
             return roster_of(alloc, kept, choosing.crewing.places());
         }

@@ -3,15 +3,14 @@ ghost use Rattle.std.specs.Prelude.{◌≡◌};
 ghost use Rattle.roster_model.specs.Goals.{IsGoal};
 
 use crate::chance::Chance;
-use crate::relaxing::{Relaxed, relax};
+use crate::effort::Effort;
+use crate::finder::Finder;
+use crate::relaxing::Relaxed;
 use crate::wholes::whole_of;
 use duty_calendar::Memory;
-use line_mixes::{Board, Care, Kept, Mix, Row, Share, WHOLE, number};
+use line_mixes::{Board, Kept, Mix, Row, Share, WHOLE, number};
 use roster_model::{Goal, Problem, Roster};
 use std::alloc::Global;
-
-/// How many mixes are tested after each line that is fixed.
-const MIXES: u32 = 25;
 
 /// A line of a member, by its number.
 #[derive(Clone, Copy, PartialEq, Eq)]
@@ -138,23 +137,16 @@ impl Descent {
         &mut self,
         alloc: Global,
         problem: &Problem,
-        kept: &mut Kept,
+        finder: &mut Finder,
         goal: &Goal,
         picks: &[Pick],
     ) -> Result<bool, Memory>
         requires goal { IsGoal problem.now goal.now }
     {
-        let board = self.fixed(alloc, problem, kept, picks)?;
-        let relaxed = relax(
-            alloc,
-            problem,
-            kept,
-            goal,
-            &board,
-            Some(&self.mix),
-            MIXES,
-            Care::Rough,
-        )?;
+        let board = self.fixed(alloc, problem, &finder.kept, picks)?;
+        let effort = Effort::fixed(finder.kind(problem));
+        let warm = Some(&self.mix);
+        let relaxed = finder.relaxed(alloc, problem, goal, &board, warm, effort)?;
         let Relaxed::Open(mix) = relaxed else {
             return Ok(false);
         };
@@ -173,20 +165,20 @@ impl Descent {
         &mut self,
         alloc: Global,
         problem: &Problem,
-        kept: &mut Kept,
+        finder: &mut Finder,
         goal: &Goal,
         pick: Pick,
     ) -> Result<bool, Memory>
         requires goal { IsGoal problem.now goal.now }
     {
-        let picks = self.company(alloc, problem, kept, goal, pick)?;
-        if self.fix(alloc, problem, kept, goal, &picks)? {
+        let picks = self.company(alloc, problem, &finder.kept, goal, pick)?;
+        if self.fix(alloc, problem, finder, goal, &picks)? {
             return Ok(true);
         }
         if picks.len() == 1 {
             return Ok(false);
         }
-        self.fix(alloc, problem, kept, goal, &[pick])
+        self.fix(alloc, problem, finder, goal, &[pick])
     }
 }
 
@@ -195,39 +187,40 @@ fn is_nearly_whole(share: Share) -> bool {
     share.part.wrapping_mul(10) >= WHOLE.wrapping_mul(9)
 }
 
-/// A roster that meets the goal and obeys the board, from a mix on; none after so many failures.
-pub fn dive(
-    alloc: Global,
-    problem: &Problem,
-    kept: &mut Kept,
-    chance: &mut Chance,
-    goal: &Goal,
-    board: &Board,
-    mix: &Mix,
-    failures: usize,
-) -> Result<Option<Roster>, Memory>
-    requires goal { IsGoal problem.now goal.now }
-{
-    let members = problem.base.members.len();
-    let mut descent = Descent {
-        board: board.copy(alloc)?,
-        mix: mix.copy(alloc)?,
-        is_fixed: vec![in alloc; false; members]?,
-        failed: Vec::new(alloc),
-    };
-    for _ in 0..members.saturating_add(failures).saturating_add(1) {
-        if let Some(roster) = whole_of(alloc, problem, kept, goal, &descent.mix)? {
-            return Ok(Some(roster));
-        }
-        let Some(pick) = descent.pick(problem, kept, goal, chance) else {
-            return Ok(None);
+impl Finder {
+    /// A roster that meets the goal and obeys the board, from a mix on; none after so many failures.
+    pub(crate) fn dive(
+        &mut self,
+        alloc: Global,
+        problem: &Problem,
+        goal: &Goal,
+        board: &Board,
+        mix: &Mix,
+        failures: usize,
+    ) -> Result<Option<Roster>, Memory>
+        requires goal { IsGoal problem.now goal.now }
+    {
+        let members = problem.base.members.len();
+        let mut descent = Descent {
+            board: board.copy(alloc)?,
+            mix: mix.copy(alloc)?,
+            is_fixed: vec![in alloc; false; members]?,
+            failed: Vec::new(alloc),
         };
-        if !descent.go(alloc, problem, kept, goal, pick)? {
-            if descent.failed.len() >= failures {
-                return Ok(None);
+        for _ in 0..members.saturating_add(failures).saturating_add(1) {
+            if let Some(roster) = whole_of(alloc, problem, &self.kept, goal, &descent.mix)? {
+                return Ok(Some(roster));
             }
-            descent.failed.push(pick)?;
+            let Some(pick) = descent.pick(problem, &self.kept, goal, &mut self.chance) else {
+                return Ok(None);
+            };
+            if !descent.go(alloc, problem, self, goal, pick)? {
+                if descent.failed.len() >= failures {
+                    return Ok(None);
+                }
+                descent.failed.push(pick)?;
+            }
         }
+        Ok(None)
     }
-    Ok(None)
 }

@@ -1,14 +1,12 @@
 //! Rosters that were found, with their scores.
 
+use crate::limits::KNOWN;
 use bid_score::score;
 use duty_calendar::{Copied, Memory};
 use line_generator::are_known;
 use line_mixes::{is_granted, is_member, number};
 use roster_model::{BidRef, Goal, Line, Problem, Roster};
 use std::alloc::Global;
-
-/// How many rosters are known at most.
-const MOST_KNOWN: usize = 256;
 
 /// A roster, and the scores of its members.
 #[derive(Drop)]
@@ -83,7 +81,7 @@ impl AllKnown {
         if self.rosters.iter().any(|known| known.roster == *roster) {
             return Ok(());
         }
-        if self.rosters.len() >= MOST_KNOWN {
+        if self.rosters.len() >= KNOWN {
             self.rosters.remove(0);
         }
         self.rosters.push(Known {

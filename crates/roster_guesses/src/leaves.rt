@@ -2,14 +2,13 @@
 ghost use Rattle.std.specs.Prelude.{◌≡◌};
 ghost use Rattle.roster_model.specs.Goals.{IsGoal};
 
-use crate::testing::{Balance, Bounded, Leaf, bounds_of, test_member, weighed};
+use crate::leaf::{Bounded, Leaf};
+use crate::limits::SEARCHED;
+use crate::testing::{Tried, test_member};
 use duty_calendar::Memory;
 use line_mixes::{Board, Care, Columns, Kept, number};
 use roster_model::{Goal, Problem};
 use std::alloc::Global;
-
-/// How many members may be searched for weights that closed another root.
-const MOST_SEARCHED: usize = 3;
 
 /// Which members are to be searched so that the weights close the root: all but those of whom it is known what no line is
 /// above, which the leaf is told.
@@ -19,17 +18,12 @@ fn unknown(
     kept: &Kept,
     goal: &Goal,
     weights: &[i64],
-    balance: &mut Balance,
     leaf: &mut Leaf,
 ) -> Result<Vec<usize>, Memory> {
     let mut members = Vec::new(alloc);
     for member in 0..problem.base.members.len() {
         match kept.barren(alloc, member, goal, weights)? {
-            Some((over, lens)) => {
-                let most = leaf.most(member);
-                balance.allow(over.wrapping_sub(most));
-                leaf.set(member, lens, over.max(most));
-            }
+            Some((over, lens)) => leaf.allow(member, lens, over),
             None => members.push(member)?,
         }
     }
@@ -42,23 +36,18 @@ fn search(
     problem: &Problem,
     kept: &mut Kept,
     goal: &Goal,
-    board: &Board,
     columns: &mut Columns,
-    weights: &[i64],
+    tried: Tried,
     members: &[usize],
-    balance: &mut Balance,
     leaf: &mut Leaf,
 ) -> Result<(), Memory>
     requires goal { IsGoal problem.now goal.now }
 {
-    let care = Care::Fine;
     for member in members {
         if !leaf.is_closing {
             return Ok(());
         }
-        test_member(
-            alloc, problem, kept, goal, board, columns, weights, *member, care, balance, leaf,
-        )?;
+        test_member(alloc, problem, kept, goal, columns, tried, *member, leaf)?;
     }
     Ok(())
 }
@@ -75,36 +64,22 @@ fn test_again(
 ) -> Result<Option<Bounded>, Memory>
     requires goal { IsGoal problem.now goal.now }
 {
-    let bounds = bounds_of(alloc, problem, kept, columns, &weights)?;
-    let mut balance = weighed(problem, &bounds, &weights);
-    if balance.is_reached() {
+    let Some(begun) = Leaf::begun(alloc, problem, kept, columns, &weights)? else {
+        return Ok(None);
+    };
+    let mut leaf = begun;
+    let members = unknown(alloc, problem, kept, goal, &weights, &mut leaf)?;
+    if leaf.is_reached() || members.len() > SEARCHED {
         return Ok(None);
     }
-    let mut leaf = Leaf::new(alloc, problem, bounds)?;
-    let members = unknown(
-        alloc,
-        problem,
-        kept,
-        goal,
-        &weights,
-        &mut balance,
-        &mut leaf,
-    )?;
-    if balance.is_reached() || members.len() > MOST_SEARCHED {
-        return Ok(None);
-    }
-    balance.share(number(members.len()));
-    search(
-        alloc,
-        problem,
-        kept,
-        goal,
+    leaf.share(number(members.len()));
+    let tried = Tried {
         board,
-        columns,
-        &weights,
-        &members,
-        &mut balance,
-        &mut leaf,
+        weights: &weights,
+        care: Care::Fine,
+    };
+    search(
+        alloc, problem, kept, goal, columns, tried, &members, &mut leaf,
     )?;
     Ok(leaf.closed(weights))
 }

@@ -2,27 +2,30 @@
 ghost use Rattle.std.specs.Prelude.{◌≡◌};
 ghost use Rattle.roster_model.specs.Goals.{IsGoal};
 
-use crate::testing::Bounded;
+use crate::leaf::Bounded;
+use crate::testing::Tried;
 use duty_calendar::Memory;
-use line_mixes::{Board, Care, Kept, Priced, Row, is_first, needed, number, price_afresh};
+use line_mixes::{Board, Care, Kept, Priced, is_first, needed, number, price_afresh};
 use roster_model::{Goal, Lens, Problem};
 use std::alloc::Global;
 
-/// A lens under which the member has no line above the bound, by a ladder of this care that begins with the first lens.
+/// A lens under which the member has no line above the bound, by a ladder that begins with the first lens.
 fn lens_again(
     alloc: Global,
     problem: &Problem,
     kept: &mut Kept,
     goal: &Goal,
-    row: &Row,
-    weights: &[i64],
+    tried: Tried,
     member: usize,
     over: i64,
-    care: Care,
 ) -> Result<Option<Lens>, Memory>
     requires goal { IsGoal problem.now goal.now }
 {
-    let priced = price_afresh(alloc, problem, kept, member, goal, row, weights, over, care)?;
+    let row = tried.board.row(member);
+    let (weights, care) = (tried.weights, tried.care);
+    let priced = price_afresh(
+        alloc, problem, kept, member, goal, &row, weights, over, care,
+    )?;
     match priced {
         Priced::Nothing(lens) => Ok(Some(lens)),
         Priced::Line(_, _) | Priced::Unknown => Ok(None),
@@ -36,8 +39,7 @@ fn plainer_lens(
     problem: &Problem,
     kept: &mut Kept,
     goal: &Goal,
-    row: &Row,
-    weights: &[i64],
+    tried: Tried,
     member: usize,
     over: i64,
     lens: &Lens,
@@ -47,13 +49,15 @@ fn plainer_lens(
     if is_first(lens) && !lens.whole {
         return Ok(None);
     }
-    let care = Care::Plain;
-    let plain = lens_again(alloc, problem, kept, goal, row, weights, member, over, care)?;
+    let by_pairings = Tried {
+        care: Care::Plain,
+        ..tried
+    };
+    let plain = lens_again(alloc, problem, kept, goal, by_pairings, member, over)?;
     if plain.is_some() || is_first(lens) || !lens.whole {
         return Ok(plain);
     }
-    let care = Care::Fine;
-    lens_again(alloc, problem, kept, goal, row, weights, member, over, care)
+    lens_again(alloc, problem, kept, goal, tried, member, over)
 }
 
 /// The lens of a member without a line at the node, or one that sees less.
@@ -72,11 +76,12 @@ pub fn plainer_without_line(
         return Ok(lens);
     }
     let weights = vec![in alloc; 0i64; problem.base.pairings.len()]?;
-    let row = board.row(member);
-    let plainer = plainer_lens(
-        alloc, problem, kept, goal, &row, &weights, member, -1, &lens,
-    )?;
-    match plainer {
+    let tried = Tried {
+        board,
+        weights: &weights,
+        care: Care::Fine,
+    };
+    match plainer_lens(alloc, problem, kept, goal, tried, member, -1, &lens)? {
         Some(plainer) => Ok(plainer),
         None => Ok(lens),
     }
@@ -115,11 +120,12 @@ pub fn plainer(
             .copied()
             .unwrap_or(0)
             .wrapping_add(spare);
-        let row = board.row(member);
-        let weights = &leaf.weights;
-        let plainer = plainer_lens(
-            alloc, problem, kept, goal, &row, weights, member, over, lens,
-        )?;
+        let tried = Tried {
+            board,
+            weights: &leaf.weights,
+            care: Care::Fine,
+        };
+        let plainer = plainer_lens(alloc, problem, kept, goal, tried, member, over, lens)?;
         if let Some(plainer) = plainer {
             if member < leaf.lenses.len() {
                 *leaf.lenses.at_mut(member) = plainer;

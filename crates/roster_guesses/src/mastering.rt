@@ -1,23 +1,18 @@
-//! The relaxation of a node by programs: weights that their solutions give, and half way to these, are tested.
+//! The relaxation of a node by linear programs over its columns (restricted masters): the dual prices of their solutions, and
+//! those half way to these (smoothing), are tested.
 ghost use Rattle.std.specs.Prelude.{◌≡◌};
 ghost use Rattle.roster_model.specs.Goals.{IsGoal};
 
+use crate::dear::test_all;
+use crate::effort::Effort;
+use crate::leaf::Bounded;
+use crate::limits::{ALL_ROWS, CHANGES, FEW_ROWS, MISSED, MOST_ROWS};
 use crate::relaxing::Relaxed;
-use crate::testing::{Balance, Bounded, DEAR, Leaf, bounds_of, test_member, weighed};
 use duty_calendar::Memory;
-use line_mixes::{Board, Care, Columns, Kept, Mix, Priced, Program, WHOLE, number, price_briefly};
+use line_mixes::{Board, Care, Columns, Kept, Mix, Program, WHOLE, rows};
 use roster_model::{Goal, Problem};
 use std::alloc::Global;
 use std::num::{nearest_i64_to_f64, saturating_f64_to_i64};
-
-/// How much may be missed by a program that counts as solved.
-const LITTLE: f64 = 0.003;
-/// How many rows a program may have: it takes longer than the searches that it saves where there are more.
-const MOST_ROWS: usize = 300;
-/// Up to how many rows a program is worth its time even where searches are short.
-const FEW_ROWS: usize = 64;
-/// How often something may come into a program in one go.
-const MOST_CHANGES: u32 = 20_000;
 
 /// What is worked on: the program, what pairings are worth by the weights that were tested last, and these.
 #[derive(Drop)]
@@ -35,19 +30,21 @@ enum Tested {
     Stuck,
 }
 
-/// Whether programs are worth their time: some searches are dear, and the rows are few.
+/// Whether programs are worth their time from the first relaxation on: some searches are dear, and the rows are few.
 pub fn is_worth_while(problem: &Problem, kept: &Kept) -> bool {
-    let (members, pairings) = (problem.base.members.len(), problem.base.pairings.len());
-    let rows = pairings.saturating_add(members);
-    rows <= FEW_ROWS || kept.has_dear() && rows <= MOST_ROWS
+    rows(problem) <= FEW_ROWS || kept.has_dear() && rows(problem) <= MOST_ROWS
+}
+
+/// Whether programs are to be worked on where mixes don't decide.
+pub(crate) fn is_wanted(problem: &Problem, kept: &Kept) -> bool {
+    rows(problem) <= FEW_ROWS || kept.has_dear() && rows(problem) <= ALL_ROWS
 }
 
 /// What may be missed by a program that is not solved to its end: in one of many rows nothing, since a roster is more easily
 /// found from where it ends.
 fn end_of(problem: &Problem) -> f64 {
-    let (members, pairings) = (problem.base.members.len(), problem.base.pairings.len());
-    if pairings.saturating_add(members) <= FEW_ROWS {
-        LITTLE
+    if rows(problem) <= FEW_ROWS {
+        MISSED
     } else {
         0.0
     }
@@ -75,216 +72,7 @@ fn rounded(alloc: Global, worth: &[f64]) -> Result<Vec<i64>, Memory> {
     Ok(weights)
 }
 
-/// Looks briefly for a line of the member that weighs more than its columns. Whose search takes longer is held to be dear.
-fn test_briefly(
-    alloc: Global,
-    problem: &Problem,
-    kept: &mut Kept,
-    goal: &Goal,
-    board: &Board,
-    columns: &mut Columns,
-    weights: &[i64],
-    member: usize,
-    care: Care,
-    balance: &mut Balance,
-    leaf: &mut Leaf,
-) -> Result<(), Memory>
-    requires goal { IsGoal problem.now goal.now }
-{
-    let row = board.row(member);
-    if kept.is_dear(member) || row.is_whole(problem.base.pairings.len()) {
-        return Ok(());
-    }
-    let most = leaf.most(member);
-    match price_briefly(
-        alloc, problem, kept, member, goal, &row, weights, most, care,
-    )? {
-        Priced::Line(place, weight) => leaf.found(columns, balance, member, place, weight)?,
-        Priced::Unknown => kept.hold_dear(member, DEAR),
-        Priced::Nothing(lens) => leaf.set(member, lens, most),
-    }
-    Ok(())
-}
-
-/// Looks once more for a line of a member of whom one was found, above the heaviest known one and the member's share of what
-/// may be weighed more; tells whether there is none.
-fn settle_member(
-    alloc: Global,
-    problem: &Problem,
-    kept: &mut Kept,
-    goal: &Goal,
-    board: &Board,
-    columns: &mut Columns,
-    weights: &[i64],
-    member: usize,
-    care: Care,
-    balance: &mut Balance,
-    leaf: &mut Leaf,
-) -> Result<bool, Memory>
-    requires goal { IsGoal problem.now goal.now }
-{
-    let row = board.row(member);
-    let over = balance.with_slack(leaf.most(member));
-    match price_briefly(
-        alloc, problem, kept, member, goal, &row, weights, over, care,
-    )? {
-        Priced::Line(place, weight) => leaf.found(columns, balance, member, place, weight)?,
-        Priced::Unknown => {}
-        Priced::Nothing(lens) => {
-            leaf.set(member, lens, over);
-            balance.spend();
-            return Ok(true);
-        }
-    }
-    Ok(false)
-}
-
-/// Looks once more at the members of whom lines were found, who share with the dear ones what may be weighed above the known
-/// lines, as long as these weigh less than the needs. Where none has another line, the leaf may close after all.
-fn settle(
-    alloc: Global,
-    problem: &Problem,
-    kept: &mut Kept,
-    goal: &Goal,
-    board: &Board,
-    columns: &mut Columns,
-    weights: &[i64],
-    care: Care,
-    balance: &mut Balance,
-    leaf: &mut Leaf,
-) -> Result<(), Memory>
-    requires goal { IsGoal problem.now goal.now }
-{
-    let risen = leaf.take_risen(alloc);
-    let mut left = count_dear(problem, kept, board).saturating_add(number(risen.len()));
-    for member in &risen {
-        if balance.is_reached() {
-            return Ok(());
-        }
-        balance.share(left);
-        left = left.saturating_sub(1);
-        if !settle_member(
-            alloc, problem, kept, goal, board, columns, weights, *member, care, balance, leaf,
-        )? {
-            return Ok(());
-        }
-    }
-    leaf.is_closing = true;
-    Ok(())
-}
-
-/// How many members are dear, and not decided whole.
-fn count_dear(problem: &Problem, kept: &Kept, board: &Board) -> u32 {
-    let mut count: u32 = 0;
-    for member in 0..problem.base.members.len() {
-        if kept.is_dear(member) && !board.row(member).is_whole(problem.base.pairings.len()) {
-            count = count.saturating_add(1);
-        }
-    }
-    count
-}
-
-/// Tests the members that are dear, who share what may be weighed above the columns.
-fn test_dear(
-    alloc: Global,
-    problem: &Problem,
-    kept: &mut Kept,
-    goal: &Goal,
-    board: &Board,
-    columns: &mut Columns,
-    weights: &[i64],
-    care: Care,
-    balance: &mut Balance,
-    leaf: &mut Leaf,
-) -> Result<(), Memory>
-    requires goal { IsGoal problem.now goal.now }
-{
-    let mut left = count_dear(problem, kept, board);
-    for member in 0..problem.base.members.len() {
-        if !kept.is_dear(member) || board.row(member).is_whole(problem.base.pairings.len()) {
-            continue;
-        }
-        if balance.is_reached() {
-            leaf.is_closing = false;
-            return Ok(());
-        }
-        balance.share(left);
-        left = left.saturating_sub(1);
-        kept.count_dear(member);
-        test_member(
-            alloc, problem, kept, goal, board, columns, weights, member, care, balance, leaf,
-        )?;
-        if leaf.is_closing {
-            balance.spend();
-        }
-    }
-    Ok(())
-}
-
-/// Whether the weights close the node: all members that are not dear are searched; then, as long as the lines that are known
-/// weigh less than the needs, those of whom lines were found once more, and the dear ones. Lines that are found join the
-/// columns.
-fn test_all(
-    alloc: Global,
-    problem: &Problem,
-    kept: &mut Kept,
-    goal: &Goal,
-    board: &Board,
-    columns: &mut Columns,
-    weights: Vec<i64>,
-    care: Care,
-) -> Result<Option<Bounded>, Memory>
-    requires goal { IsGoal problem.now goal.now }
-{
-    let bounds = bounds_of(alloc, problem, kept, columns, &weights)?;
-    let mut balance = weighed(problem, &bounds, &weights);
-    if balance.is_reached() {
-        return Ok(None);
-    }
-    let mut leaf = Leaf::new(alloc, problem, bounds)?;
-    for member in 0..problem.base.members.len() {
-        test_briefly(
-            alloc,
-            problem,
-            kept,
-            goal,
-            board,
-            columns,
-            &weights,
-            member,
-            care,
-            &mut balance,
-            &mut leaf,
-        )?;
-    }
-    settle(
-        alloc,
-        problem,
-        kept,
-        goal,
-        board,
-        columns,
-        &weights,
-        care,
-        &mut balance,
-        &mut leaf,
-    )?;
-    test_dear(
-        alloc,
-        problem,
-        kept,
-        goal,
-        board,
-        columns,
-        &weights,
-        care,
-        &mut balance,
-        &mut leaf,
-    )?;
-    Ok(leaf.closed(weights))
-}
-
-/// Tests what pairings are worth, in whole numbers, and remembers it.
+/// Tests what pairings are worth by the work, in whole numbers, and remembers these.
 fn test_worth(
     alloc: Global,
     problem: &Problem,
@@ -292,16 +80,14 @@ fn test_worth(
     goal: &Goal,
     board: &Board,
     columns: &mut Columns,
-    worth: Vec<f64>,
     care: Care,
     work: &mut Work,
 ) -> Result<Tested, Memory>
     requires goal { IsGoal problem.now goal.now }
 {
     let before = columns.count();
-    let weights = rounded(alloc, &worth)?;
+    let weights = rounded(alloc, &work.worth)?;
     work.weights = Vec::from_slice(alloc, &weights)?;
-    work.worth = worth;
     let leaf = test_all(alloc, problem, kept, goal, board, columns, weights, care)?;
     Ok(match leaf {
         Some(leaf) => Tested::Closed(leaf),
@@ -324,22 +110,18 @@ fn test_halfway(
     requires goal { IsGoal problem.now goal.now }
 {
     let is_first = work.worth.is_empty();
-    let between = halfway(alloc, &work.worth, work.program.worth())?;
-    let tested = test_worth(
-        alloc, problem, kept, goal, board, columns, between, care, work,
-    )?;
+    work.worth = halfway(alloc, &work.worth, work.program.worth())?;
+    let tested = test_worth(alloc, problem, kept, goal, board, columns, care, work)?;
     match tested {
         Tested::Stuck if !is_first => {
-            let worth = Vec::from_slice(alloc, work.program.worth())?;
-            test_worth(
-                alloc, problem, kept, goal, board, columns, worth, care, work,
-            )
+            work.worth = Vec::from_slice(alloc, work.program.worth())?;
+            test_worth(alloc, problem, kept, goal, board, columns, care, work)
         }
         _ => Ok(tested),
     }
 }
 
-/// Weights of better and better programs are tested, so many times, until they close the node or hardly anything is missed.
+/// Weights of better and better programs are tested until they close the node or hardly anything is missed.
 fn worked(
     alloc: Global,
     problem: &Problem,
@@ -347,16 +129,16 @@ fn worked(
     goal: &Goal,
     board: &Board,
     columns: &mut Columns,
-    most: u32,
-    care: Care,
+    effort: Effort,
     work: &mut Work,
 ) -> Result<Option<Bounded>, Memory>
     requires goal { IsGoal problem.now goal.now }
 {
     let end = end_of(problem);
-    for _ in 0..most {
-        work.program.solve(alloc, kept, columns, MOST_CHANGES, end)?;
-        if work.program.misses() <= LITTLE {
+    let care = effort.care;
+    for _ in 0..effort.mixes {
+        work.program.solve(alloc, kept, columns, CHANGES, end)?;
+        if work.program.misses() <= MISSED {
             return Ok(None);
         }
         match test_halfway(alloc, problem, kept, goal, board, columns, care, work)? {
@@ -403,8 +185,7 @@ pub(crate) fn mastered(
     board: &Board,
     columns: &mut Columns,
     warm: Option<&Mix>,
-    most: u32,
-    care: Care,
+    effort: Effort,
 ) -> Result<Relaxed, Memory>
     requires goal { IsGoal problem.now goal.now }
 {
@@ -414,7 +195,7 @@ pub(crate) fn mastered(
         weights: tested_before(alloc, problem, warm)?,
     };
     let leaf = worked(
-        alloc, problem, kept, goal, board, columns, most, care, &mut work,
+        alloc, problem, kept, goal, board, columns, effort, &mut work,
     )?;
     let (program, weights) = (work.program, work.weights);
     let relaxed = match leaf {

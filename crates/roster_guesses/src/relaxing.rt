@@ -1,21 +1,19 @@
-//! A relaxation of a node: weights that may close it, or a mix of lines that comes near to the needs.
+//! A relaxation of a node (column generation): weights that may close it, or a mix of lines that comes near to the needs.
 ghost use Rattle.std.specs.Prelude.{◌≡◌};
 ghost use Rattle.roster_model.specs.Goals.{IsGoal};
 
+use crate::effort::Effort;
+use crate::evening::{Ended, improve};
+use crate::gathering::{Gathered, gather, thinned};
+use crate::leaf::Bounded;
 use crate::leaves::test_leaves;
-use crate::mastering::{is_worth_while, mastered};
-use crate::testing::{Bounded, test};
+use crate::limits::{FIRST_MIXES, LOST};
+use crate::mastering::{is_wanted, mastered};
+use crate::testing::{Outcome, test};
 use duty_calendar::Memory;
-use line_mixes::{Board, Care, Columns, Kept, Mix, Priced, needed, number, price_afresh};
+use line_mixes::{Board, Care, Columns, Kept, Mix, is_large};
 use roster_model::{Goal, Lens, Problem};
 use std::alloc::Global;
-
-/// How often the members are gone through for one mix.
-const SWEEPS: u32 = 200;
-/// Of so many sweeps the first looks at all columns.
-const FULL: u32 = 8;
-/// After how many sweeps the weights of a mix are looked at.
-const FIRST_LOOK: u32 = 8;
 
 /// What a relaxation comes to.
 #[derive(Drop)]
@@ -32,129 +30,17 @@ pub enum Relaxed {
     Unknown,
 }
 
-/// The lines that may be mixed, or why there are none.
-#[derive(Drop)]
-enum Gathered {
-    Columns(Columns),
-    NoLine(u32, Lens),
-    Unknown,
-}
-
-/// How the improving of a mix ended: its misses are small, the columns weigh less than the needs, no step is left, or
-/// there were steps enough.
-#[derive(Clone, Copy, PartialEq, Eq)]
-enum Ended {
-    Even,
-    Outweighed,
-    Stuck,
-    Tired,
-}
-
-/// Looks for a first line of the member.
-fn first_line(
-    alloc: Global,
-    problem: &Problem,
-    kept: &mut Kept,
-    goal: &Goal,
-    board: &Board,
-    member: usize,
-    care: Care,
-) -> Result<Priced, Memory>
-    requires goal { IsGoal problem.now goal.now }
-{
-    let weights = vec![in alloc; 0i64; problem.base.pairings.len()]?;
-    let row = board.row(member);
-    price_afresh(alloc, problem, kept, member, goal, &row, &weights, -1, care)
-}
-
-/// The lines of all members that may be mixed.
-fn gather(
-    alloc: Global,
-    problem: &Problem,
-    kept: &mut Kept,
-    goal: &Goal,
-    board: &Board,
-    care: Care,
-) -> Result<Gathered, Memory>
-    requires goal { IsGoal problem.now goal.now }
-{
-    let mut columns = Columns::new(alloc);
-    for member in 0..problem.base.members.len() {
-        if columns.append(alloc, kept, goal, member, &board.row(member), care)? {
-            continue;
-        }
-        match first_line(alloc, problem, kept, goal, board, member, care)? {
-            Priced::Line(place, _weight) => columns.add(member, place)?,
-            Priced::Nothing(lens) => return Ok(Gathered::NoLine(number(member), lens)),
-            Priced::Unknown => return Ok(Gathered::Unknown),
+impl Relaxed {
+    /// Whether it is known what closes the node.
+    pub fn is_closing(&self) -> bool {
+        match self {
+            Relaxed::Bounded(_) | Relaxed::NoLine(_, _) => true,
+            Relaxed::Miscrewed | Relaxed::Open(_) | Relaxed::Unknown => false,
         }
     }
-    Ok(Gathered::Columns(columns))
 }
 
-/// One step for each member. Says by how much the least lines are above the needs together, and whether share was
-/// moved.
-fn sweep(
-    problem: &Problem,
-    kept: &Kept,
-    columns: &Columns,
-    mix: &mut Mix,
-    all: bool,
-) -> Result<(i64, bool), Memory> {
-    let mut sum: i64 = 0;
-    let mut is_moved = false;
-    for member in 0..problem.base.members.len() {
-        let (least, moved) = mix.step(kept, columns, member, all)?;
-        sum = sum.wrapping_add(least);
-        if moved {
-            is_moved = true;
-        }
-    }
-    Ok((sum, is_moved))
-}
-
-/// Whether the columns weigh less than the needs under the weights of the mix.
-fn is_outweighed(
-    alloc: Global,
-    problem: &Problem,
-    kept: &Kept,
-    columns: &Columns,
-    mix: &Mix,
-) -> Result<bool, Memory> {
-    let weights = mix.weights(alloc)?;
-    Ok(columns.total(kept, problem, &weights) < needed(problem, &weights))
-}
-
-/// Brings the mix nearer to the needs. Every eighth sweep looks at all columns, the others at those with a share.
-fn improve(
-    alloc: Global,
-    problem: &Problem,
-    kept: &Kept,
-    columns: &Columns,
-    mix: &mut Mix,
-    care: Care,
-) -> Result<Ended, Memory> {
-    for turn in 0..SWEEPS {
-        let all = turn % FULL == 0;
-        let (least, is_moved) = sweep(problem, kept, columns, mix, all)?;
-        if mix.is_even(care.little()) {
-            return Ok(Ended::Even);
-        }
-        let may_close = all
-            && turn >= FIRST_LOOK
-            && least > needed(problem, mix.misses())
-            && is_outweighed(alloc, problem, kept, columns, mix)?;
-        if may_close {
-            return Ok(Ended::Outweighed);
-        }
-        if all && !is_moved {
-            return Ok(Ended::Stuck);
-        }
-    }
-    Ok(Ended::Tired)
-}
-
-/// Weights of better and better mixes are tested, so many times, until they close the node or a mix is as good as even.
+/// Weights of better and better mixes are tested until they close the node or a mix is as good as even.
 fn mixed(
     alloc: Global,
     problem: &Problem,
@@ -163,22 +49,27 @@ fn mixed(
     board: &Board,
     columns: &mut Columns,
     mix: Mix,
-    most: u32,
-    care: Care,
+    effort: Effort,
 ) -> Result<Relaxed, Memory>
     requires goal { IsGoal problem.now goal.now }
 {
     let mut mix = mix;
-    for _ in 0..most {
+    let mut lost: u32 = 0;
+    let care = effort.care;
+    for _ in 0..effort.mixes {
         let ended = improve(alloc, problem, kept, columns, &mut mix, care)?;
         if ended == Ended::Even {
             return Ok(Relaxed::Open(mix));
         }
         let before = columns.count();
         let weights = mix.weights(alloc)?;
-        let leaf = test(alloc, problem, kept, goal, board, columns, weights, care)?;
-        if let Some(leaf) = leaf {
-            return Ok(Relaxed::Bounded(leaf));
+        match test(alloc, problem, kept, goal, board, columns, weights, care)? {
+            Outcome::Closes(leaf) => return Ok(Relaxed::Bounded(leaf)),
+            Outcome::Open => {}
+            Outcome::Lost => lost = lost.saturating_add(1),
+        }
+        if lost >= LOST && care == Care::Rough && is_large(problem) {
+            return Ok(Relaxed::Unknown);
         }
         if ended == Ended::Stuck && columns.count() == before {
             return Ok(Relaxed::Open(mix));
@@ -195,18 +86,90 @@ pub fn relax(
     goal: &Goal,
     board: &Board,
     warm: Option<&Mix>,
-    most: u32,
-    care: Care,
+    effort: Effort,
 ) -> Result<Relaxed, Memory>
     requires goal { IsGoal problem.now goal.now }
 {
-    let relaxed = relaxation(alloc, problem, kept, goal, board, warm, most, care)?;
+    let relaxed = relaxation(alloc, problem, kept, goal, board, warm, effort)?;
     if let Relaxed::Bounded(leaf) = &relaxed {
-        if care == Care::Fine && board.is_empty() {
+        if effort.care == Care::Fine && board.is_empty() {
             kept.keep_leaf(alloc, &leaf.weights)?;
         }
     }
     Ok(relaxed)
+}
+
+/// Mixes are tested, and in a large month a program is worked on where these decide nothing; in another at once, where one is
+/// wanted.
+fn decided(
+    alloc: Global,
+    problem: &Problem,
+    kept: &mut Kept,
+    goal: &Goal,
+    board: &Board,
+    columns: &mut Columns,
+    warm: Option<&Mix>,
+    effort: Effort,
+) -> Result<Relaxed, Memory>
+    requires goal { IsGoal problem.now goal.now }
+{
+    let is_wanted = effort.care != Care::Rough && is_wanted(problem, kept);
+    if is_wanted && !is_large(problem) {
+        return mastered(alloc, problem, kept, goal, board, columns, warm, effort);
+    }
+    let first = Effort {
+        mixes: if is_wanted { FIRST_MIXES } else { effort.mixes },
+        ..effort
+    };
+    let begun = Mix::begun(alloc, problem, kept, columns, warm)?;
+    let relaxed = mixed(alloc, problem, kept, goal, board, columns, begun, first)?;
+    let mix = match relaxed {
+        Relaxed::Open(mix) => mix,
+        other => return Ok(other),
+    };
+    if !is_wanted || mix.is_even(effort.care.little()) {
+        return Ok(Relaxed::Open(mix));
+    }
+    mastered(
+        alloc,
+        problem,
+        kept,
+        goal,
+        board,
+        columns,
+        Some(&mix),
+        effort,
+    )
+}
+
+/// The weights that closed other roots, and those of the mix with which the relaxation begins, are tested.
+fn known_leaf(
+    alloc: Global,
+    problem: &Problem,
+    kept: &mut Kept,
+    goal: &Goal,
+    board: &Board,
+    columns: &mut Columns,
+    warm: Option<&Mix>,
+    care: Care,
+) -> Result<Option<Bounded>, Memory>
+    requires goal { IsGoal problem.now goal.now }
+{
+    if care == Care::Fine && board.is_empty() {
+        let leaf = test_leaves(alloc, problem, kept, goal, board, columns)?;
+        if leaf.is_some() {
+            return Ok(leaf);
+        }
+    }
+    let Some(warm) = warm else {
+        return Ok(None);
+    };
+    let weights = warm.weights(alloc)?;
+    let outcome = test(alloc, problem, kept, goal, board, columns, weights, care)?;
+    Ok(match outcome {
+        Outcome::Closes(leaf) => Some(leaf),
+        Outcome::Open | Outcome::Lost => None,
+    })
 }
 
 /// The relaxation, of which no weights are remembered.
@@ -217,64 +180,32 @@ fn relaxation(
     goal: &Goal,
     board: &Board,
     warm: Option<&Mix>,
-    most: u32,
-    care: Care,
+    effort: Effort,
 ) -> Result<Relaxed, Memory>
     requires goal { IsGoal problem.now goal.now }
 {
     if board.has_miscrewed(problem) {
         return Ok(Relaxed::Miscrewed);
     }
-    let mut columns = match gather(alloc, problem, kept, goal, board, care)? {
+    let care = effort.care;
+    let all = match gather(alloc, problem, kept, goal, board, care)? {
         Gathered::Columns(columns) => columns,
         Gathered::NoLine(member, lens) => return Ok(Relaxed::NoLine(member, lens)),
         Gathered::Unknown => return Ok(Relaxed::Unknown),
     };
-    if care == Care::Fine && board.is_empty() {
-        let leaf = test_leaves(alloc, problem, kept, goal, board, &mut columns)?;
-        if let Some(leaf) = leaf {
-            return Ok(Relaxed::Bounded(leaf));
-        }
+    let mut columns = thinned(alloc, problem, kept, goal, all, warm, care)?;
+    let leaf = known_leaf(alloc, problem, kept, goal, board, &mut columns, warm, care)?;
+    if let Some(leaf) = leaf {
+        return Ok(Relaxed::Bounded(leaf));
     }
-    if let Some(warm) = warm {
-        let weights = warm.weights(alloc)?;
-        let leaf = test(
-            alloc,
-            problem,
-            kept,
-            goal,
-            board,
-            &mut columns,
-            weights,
-            care,
-        )?;
-        if let Some(leaf) = leaf {
-            return Ok(Relaxed::Bounded(leaf));
-        }
-    }
-    if care != Care::Rough && is_worth_while(problem, kept) {
-        return mastered(
-            alloc,
-            problem,
-            kept,
-            goal,
-            board,
-            &mut columns,
-            warm,
-            most,
-            care,
-        );
-    }
-    let mix = Mix::begun(alloc, problem, kept, &columns, warm)?;
-    mixed(
+    decided(
         alloc,
         problem,
         kept,
         goal,
         board,
         &mut columns,
-        mix,
-        most,
-        care,
+        warm,
+        effort,
     )
 }

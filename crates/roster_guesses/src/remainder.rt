@@ -1,16 +1,15 @@
 //! The line of all that is left to be flown.
 
 use crate::chosen::{Choice, obeys};
+use crate::covering::Choosing;
 use crate::crewing::Crewing;
+use crate::limits::TEST_STEPS;
 use duty_calendar::{List, Memory};
 use line_generator::are_known;
 use line_legality::{Illegal, legal};
 use line_mixes::{Board, Kept, PairingSet, is_member, number};
 use roster_model::{Goal, Line, Problem};
 use std::alloc::Global;
-
-/// How many steps a test of a line counts.
-const TEST: usize = 100;
 
 /// The credit of a member's fixed events.
 fn fixed_credit(problem: &Problem, member: usize) -> u64 {
@@ -91,40 +90,40 @@ fn serving(
     }
 }
 
-/// Where two members are left, one of them flies one of these lines and the other all that is left then, if that serves:
-/// tells whether it does, and has the lines chosen.
-pub(crate) fn flies_rest(
-    alloc: Global,
-    problem: &Problem,
-    kept: &mut Kept,
-    goal: &Goal,
-    board: &Board,
-    choices: &[Choice],
-    left: &[usize],
-    crewing: &mut Crewing,
-    steps: &mut usize,
-) -> Result<bool, Memory> {
-    let all = crewing.credit();
-    for at in left.iter().rev() {
-        let Some(choice) = choices.get(*at) else {
-            continue;
-        };
-        let Some(other) = crewing.other(choice.member) else {
-            continue;
-        };
-        if !may_have(problem, other, all.saturating_sub(choice.credit)) {
-            continue;
+impl Choosing {
+    /// Where two members are left, one of them flies one of these lines and the other all that is left then, if that serves:
+    /// tells whether it does, and has the lines chosen.
+    pub(crate) fn flies_rest(
+        &mut self,
+        alloc: Global,
+        problem: &Problem,
+        kept: &mut Kept,
+        goal: &Goal,
+        board: &Board,
+        left: &[usize],
+    ) -> Result<bool, Memory> {
+        let all = self.crewing.credit();
+        for at in left.iter().rev() {
+            let Some(choice) = self.choices.get(*at).copied() else {
+                continue;
+            };
+            let Some(other) = self.crewing.other(choice.member) else {
+                continue;
+            };
+            if !may_have(problem, other, all.saturating_sub(choice.credit)) {
+                continue;
+            }
+            let Some(pairings) = rest_behind(alloc, &self.crewing, &choice)? else {
+                continue;
+            };
+            self.steps = self.steps.saturating_sub(TEST_STEPS);
+            let found = serving(alloc, problem, kept, goal, board, other, pairings)?;
+            if found.is_some() {
+                self.crewing.set_place(choice.member, Some(choice.place));
+                self.crewing.set_place(other, found);
+                return Ok(true);
+            }
         }
-        let Some(pairings) = rest_behind(alloc, crewing, choice)? else {
-            continue;
-        };
-        *steps = steps.saturating_sub(TEST);
-        let found = serving(alloc, problem, kept, goal, board, other, pairings)?;
-        if found.is_some() {
-            crewing.set_place(choice.member, Some(choice.place));
-            crewing.set_place(other, found);
-            return Ok(true);
-        }
+        Ok(false)
     }
-    Ok(false)
 }

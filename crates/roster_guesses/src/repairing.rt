@@ -1,25 +1,17 @@
-//! Repair of a roster: all members but a few keep their lines, and the few share out their pairings anew.
+//! Repair of a roster (a large neighbourhood search): all members but a few keep their lines, and the few share out their
+//! pairings anew.
 ghost use Rattle.std.specs.Prelude.{◌≡◌};
 ghost use Rattle.roster_model.specs.Goals.{IsGoal};
 
-use crate::chance::Chance;
-use crate::covering::cover;
-use crate::diving::dive;
-use crate::relaxing::{Relaxed, relax};
-use crate::wholes::whole_of;
+use crate::effort::{Effort, Kind};
+use crate::finder::Finder;
+use crate::freeing::{Begun, Free};
+use crate::limits::{FEWEST_FREE, MORE_FREE};
+use crate::relaxing::Relaxed;
 use duty_calendar::{Copied, Memory};
-use line_mixes::{Board, Care, Kept, Mix, PairingSet, Row, number};
+use line_mixes::{Kept, Mix};
 use roster_model::{Goal, Line, Problem, Roster};
 use std::alloc::Global;
-
-/// How many mixes are tested for a choice of free members.
-const MIXES: u32 = 30;
-/// How often a dive may fail there.
-const FAILURES: usize = 3;
-/// How many steps are taken to choose kept lines there.
-const STEPS: usize = 50_000;
-/// How often chance is asked for free members.
-const DRAWS: u32 = 200;
 
 /// What is found for a choice of free members: a roster; that there is none; or nothing.
 #[derive(Drop)]
@@ -29,164 +21,25 @@ enum Attempt {
     Open,
 }
 
-/// The members that are free.
-#[derive(Drop)]
-struct Free {
-    members: Vec<usize>,
+/// The member at whom the goal wants more than a known roster has: that of its bid, else the last with a floor.
+fn focus_of(goal: &Goal) -> Option<usize> {
+    match goal.grant {
+        Some(bid) => Some(bid.member as usize),
+        None => goal.floors.len().checked_sub(1),
+    }
 }
 
-/// The members whose line has the pairing.
-fn holders(alloc: Global, base: &[Line], pairing: u32) -> Result<Vec<usize>, Memory> {
-    let mut members = Vec::new(alloc);
-    for (member, line) in base.iter().enumerate() {
-        if line.pairings().contains(&pairing) {
-            members.push(member)?;
-        }
+/// The floors of the goal that a roster is to reach which is repaired.
+fn reached(goal: &Goal) -> &[u32] {
+    let floors = goal.floors.as_slice();
+    if goal.grant.is_some() {
+        return floors;
     }
-    Ok(members)
-}
-
-/// One of the members that fly the pairing, by chance.
-fn holder(
-    alloc: Global,
-    base: &[Line],
-    pairing: u32,
-    chance: &mut Chance,
-) -> Result<Option<usize>, Memory> {
-    let members = holders(alloc, base, pairing)?;
-    let at = chance.below(members.len());
-    Ok(members.get(at).copied())
-}
-
-/// A line that the mix gives the member, drawn by share.
-fn drawn_line(mix: &Mix, member: usize, chance: &mut Chance) -> Option<usize> {
-    let mut left = i64::from(number(chance.below(65_536)));
-    for share in mix.shares(member) {
-        left = left.wrapping_sub(share.part);
-        if left < 0 {
-            return Some(share.place);
-        }
-    }
-    None
-}
-
-/// A pairing that the mix gives the member, by chance.
-fn drawn_pairing(kept: &Kept, mix: &Mix, member: usize, chance: &mut Chance) -> Option<u32> {
-    let shares = mix.shares(member);
-    let share = shares.get(chance.below(shares.len()))?;
-    let pairings = kept.pairings(member, share.place);
-    pairings.get(chance.below(pairings.len())).copied()
-}
-
-impl Free {
-    /// Frees the member, if it is not.
-    fn add(&mut self, member: usize) -> Result<(), Memory> {
-        if !self.members.contains(&member) {
-            self.members.push(member)?;
-        }
-        Ok(())
-    }
-
-    /// One member more: anyone, or who flies a pairing that the mix gives a free member.
-    fn draw(
-        &self,
-        alloc: Global,
-        kept: &Kept,
-        base: &[Line],
-        mix: &Mix,
-        chance: &mut Chance,
-    ) -> Result<Option<usize>, Memory> {
-        if chance.below(4) == 0 {
-            return Ok(Some(chance.below(base.len())));
-        }
-        let Some(member) = self.members.get(chance.below(self.members.len())) else {
-            return Ok(None);
-        };
-        match drawn_pairing(kept, mix, *member, chance) {
-            Some(pairing) => holder(alloc, base, pairing, chance),
-            None => Ok(None),
-        }
-    }
-
-    /// Frees who flies the pairings of a line that the mix gives the member, while there are fewer than so many.
-    fn add_rivals(
-        &mut self,
-        alloc: Global,
-        kept: &Kept,
-        base: &[Line],
-        mix: &Mix,
-        focus: usize,
-        size: usize,
-        chance: &mut Chance,
-    ) -> Result<(), Memory> {
-        let Some(place) = drawn_line(mix, focus, chance) else {
-            return Ok(());
-        };
-        for pairing in kept.pairings(focus, place).iter().rev() {
-            if self.members.len() < size {
-                if let Some(member) = holder(alloc, base, *pairing, chance)? {
-                    self.add(member)?;
-                }
-            }
-        }
-        Ok(())
-    }
-
-    /// The focus, who flies what the mix gives it, and others by chance: so many members.
-    fn chosen(
-        alloc: Global,
-        kept: &Kept,
-        base: &[Line],
-        mix: &Mix,
-        focus: usize,
-        size: usize,
-        chance: &mut Chance,
-    ) -> Result<Free, Memory> {
-        let mut free = Free {
-            members: Vec::new(alloc),
-        };
-        free.add(focus)?;
-        free.add_rivals(alloc, kept, base, mix, focus, size, chance)?;
-        for _ in 0..DRAWS {
-            if free.members.len() >= size {
-                return Ok(free);
-            }
-            if let Some(member) = free.draw(alloc, kept, base, mix, chance)? {
-                free.add(member)?;
-            }
-        }
-        Ok(free)
-    }
-
-    /// The pairings that the free members fly.
-    fn pairings(&self, base: &[Line]) -> PairingSet {
-        let mut set = PairingSet::new();
-        for member in &self.members {
-            if let Some(line) = base.get(*member) {
-                set = set.joined(&PairingSet::of(line.pairings()));
-            }
-        }
-        set
-    }
-
-    /// The board in which the others keep their lines, and the free may fly what they fly together.
-    fn board(&self, alloc: Global, problem: &Problem, base: &[Line]) -> Result<Board, Memory> {
-        let pairings = problem.base.pairings.len();
-        let open = self.pairings(base);
-        let mut board = Board::empty(alloc, problem.base.members.len())?;
-        for (member, line) in base.iter().enumerate() {
-            if self.members.contains(&member) {
-                board.set(member, Row::among(&open, pairings));
-            } else {
-                board.set(member, Row::fixed(line.pairings(), pairings));
-            }
-        }
-        Ok(board)
-    }
+    floors.get(..floors.len().saturating_sub(1)).unwrap_or(&[])
 }
 
 /// Keeps the lines of a roster.
-pub(crate) fn keep_all(
+fn keep_all(
     alloc: Global,
     problem: &Problem,
     kept: &mut Kept,
@@ -198,64 +51,102 @@ pub(crate) fn keep_all(
     Ok(())
 }
 
-/// A roster that meets the goal and obeys the board, by its mix; else by a dive, or of kept lines where the month is tight.
-fn solved(
-    alloc: Global,
-    problem: &Problem,
-    kept: &mut Kept,
-    chance: &mut Chance,
-    goal: &Goal,
-    board: &Board,
-    is_tight: bool,
-) -> Result<Attempt, Memory>
-    requires goal { IsGoal problem.now goal.now }
-{
-    let relaxed = relax(alloc, problem, kept, goal, board, None, MIXES, Care::Rough)?;
-    let Relaxed::Open(mix) = relaxed else {
-        return Ok(Attempt::Closed);
+/// How many members are free the next time, after so many turns, in so many of which there were too few.
+fn size_of(kind: Kind, turn: usize, closed: usize, members: usize) -> usize {
+    let more = turn.wrapping_div(3).saturating_add(closed);
+    let more = if kind == Kind::Large {
+        more % MORE_FREE
+    } else {
+        more
     };
-    let mut roster = whole_of(alloc, problem, kept, goal, &mix)?;
-    if roster.is_none() && is_tight {
-        roster = cover(alloc, problem, kept, goal, board, &mix, STEPS)?;
-    } else if roster.is_none() {
-        roster = dive(alloc, problem, kept, chance, goal, board, &mix, FAILURES)?;
-    }
-    match roster {
-        Some(roster) => Ok(Attempt::Roster(roster)),
-        None => Ok(Attempt::Open),
-    }
+    more.saturating_add(FEWEST_FREE).min(members)
 }
 
-/// A roster that meets the goal and differs from this one in the lines of a few members, the focus among them; so many
-/// choices of members are tried. In a tight month each choice that leaves no roster makes the next ones greater.
-pub fn repair(
-    alloc: Global,
-    problem: &Problem,
-    kept: &mut Kept,
-    chance: &mut Chance,
-    goal: &Goal,
-    focus: usize,
-    base: &[Line],
-    mix: &Mix,
-    tries: usize,
-    is_tight: bool,
-) -> Result<Option<Roster>, Memory>
-    requires goal { IsGoal problem.now goal.now }
-{
-    keep_all(alloc, problem, kept, base)?;
-    let mut more = 0;
-    for turn in 0..tries {
-        let size = (turn / 3)
-            .saturating_add(more)
-            .saturating_add(4)
-            .min(base.len());
-        let free = Free::chosen(alloc, kept, base, mix, focus, size, chance)?;
-        let board = free.board(alloc, problem, base)?;
-        match solved(alloc, problem, kept, chance, goal, &board, is_tight)? {
-            Attempt::Roster(roster) => return Ok(Some(roster)),
-            Attempt::Closed if is_tight => more = more.saturating_add(1),
-            Attempt::Closed | Attempt::Open => {}
-        }
+impl Finder {
+    /// A roster that meets the goal and in which others than some free members keep their lines.
+    fn freed(
+        &mut self,
+        alloc: Global,
+        problem: &Problem,
+        goal: &Goal,
+        begun: &Begun,
+        size: usize,
+    ) -> Result<Attempt, Memory>
+        requires goal { IsGoal problem.now goal.now }
+    {
+        let free = Free::chosen(alloc, &self.kept, begun, size, &mut self.chance)?;
+        let board = free.board(alloc, problem, begun.base)?;
+        let effort = Effort::freed(self.kind(problem));
+        let relaxed = self.relaxed(alloc, problem, goal, &board, None, effort)?;
+        let Relaxed::Open(mix) = relaxed else {
+            return Ok(Attempt::Closed);
+        };
+        Ok(
+            match self.inner_roster(alloc, problem, goal, &board, &mix, effort)? {
+                Some(roster) => Attempt::Roster(roster),
+                None => Attempt::Open,
+            },
+        )
     }
-    Ok(None)
+
+    /// Whether a roster is known that may be repaired.
+    pub(crate) fn may_repair(&self, goal: &Goal, effort: Effort) -> bool {
+        effort.repairs > 0 && focus_of(goal).is_some() && self.known.best(reached(goal)).is_some()
+    }
+
+    /// A roster that meets the goal and differs in the lines of a few members from the best that is known, the focus among them;
+    /// choices of members are tried until the effort is spent. In a tight or large month each choice that leaves no roster makes
+    /// the next ones greater.
+    pub(crate) fn repaired(
+        &mut self,
+        alloc: Global,
+        problem: &Problem,
+        goal: &Goal,
+        mix: &Mix,
+        effort: Effort,
+    ) -> Result<Option<Roster>, Memory>
+        requires goal { IsGoal problem.now goal.now }
+    {
+        if effort.repairs == 0 {
+            return Ok(None);
+        }
+        let (Some(focus), Some(known)) = (focus_of(goal), self.known.best(reached(goal))) else {
+            return Ok(None);
+        };
+        let roster = known.roster.copy(alloc)?;
+        let base = roster.as_slice();
+        keep_all(alloc, problem, &mut self.kept, base)?;
+        let begun = Begun { base, focus, mix };
+        self.repaired_from(alloc, problem, goal, &begun, effort)
+    }
+
+    /// A roster by repairs of this one.
+    fn repaired_from(
+        &mut self,
+        alloc: Global,
+        problem: &Problem,
+        goal: &Goal,
+        begun: &Begun,
+        effort: Effort,
+    ) -> Result<Option<Roster>, Memory>
+        requires goal { IsGoal problem.now goal.now }
+    {
+        let kind = self.kind(problem);
+        let before = self.relaxations;
+        let mut closed: usize = 0;
+        for turn in 0..effort.repairs {
+            if self.relaxations.wrapping_sub(before) >= effort.relaxations {
+                return Ok(None);
+            }
+            let size = size_of(kind, turn, closed, begun.base.len());
+            match self.freed(alloc, problem, goal, begun, size)? {
+                Attempt::Roster(roster) => return Ok(Some(roster)),
+                Attempt::Closed if kind != Kind::Plain => {
+                    closed = closed.saturating_add(1);
+                }
+                Attempt::Closed | Attempt::Open => {}
+            }
+        }
+        Ok(None)
+    }
 }
