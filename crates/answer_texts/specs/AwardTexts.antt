@@ -1,5 +1,5 @@
 -- How a run of `award` ends, and what it prints.
-use Rattle.std.specs.Prelude.{ℕ, List, [], ◌∷◌, ◌++◌, codes, Result, Ok, Err}
+use Rattle.std.specs.Prelude.{ℕ, List, [], ◌∷◌, ◌++◌, codes, length, Result, Ok, Err}
 use Rattle.month_commands.specs.declared.award_stop.AwardStop.{AwardStop}
 use Rattle.month_commands.specs.declared.award_stop.AwardStop.TheVariants as stop
 use Rattle.month_commands.specs.declared.award_stop.Finding.{Finding}
@@ -19,7 +19,7 @@ abbrev pub award_status : Result Finding AwardStop → Status
 award_status (Ok f) = found_status f.found
 award_status (Err (stop.Unread why)) = unread_status why
 award_status (Err (stop.BadInput why)) = input_status why
-award_status (Err (stop.Budget nodes)) = status.Budget
+award_status (Err (stop.Budget ledger)) = status.Budget
 award_status (Err (stop.Unwritten f u)) = write_status u.why
 award_status (Err stop.NoMemory) = status.NoMemory
 
@@ -37,9 +37,9 @@ abbrev pub lines_of : Found → ℕ → List ℕ
 lines_of w nodes = (first_text w ++ line_of (codes "nodes") (nodes ∷ [])) ++ last_text w
 
 abbrev pub award_text : Result Finding AwardStop → List ℕ
-award_text (Ok f) = lines_of f.found f.nodes
+award_text (Ok f) = lines_of f.found (length f.ledger.entries)
 award_text (Err (stop.Unread why)) = unread_text why
 award_text (Err (stop.BadInput why)) = bad_input_text why
-award_text (Err (stop.Budget nodes)) = line_of (codes "budget") (nodes ∷ [])
+award_text (Err (stop.Budget ledger)) = line_of (codes "budget") (length ledger.entries ∷ [])
 award_text (Err (stop.Unwritten f u)) = unwritten_text u
 award_text (Err stop.NoMemory) = []

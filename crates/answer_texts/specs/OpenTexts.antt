@@ -1,5 +1,5 @@
 -- How a run of `open` ends, and what it prints.
-use Rattle.std.specs.Prelude.{ℕ, ◌+◌, List, [], ◌∷◌, ◌++◌, codes, Result, Ok, Err}
+use Rattle.std.specs.Prelude.{ℕ, ◌+◌, List, [], ◌∷◌, ◌++◌, codes, length, Result, Ok, Err}
 use Rattle.std.specs.List.{flat_map}
 use Rattle.open_time.specs.declared.fault.OpenFault.{OpenFault}
 use Rattle.open_time.specs.declared.fault.OpenFault.TheVariants as fault
@@ -24,7 +24,7 @@ open_status (Ok f) = opening_status f.found
 open_status (Err (stop.Unread why)) = unread_status why
 open_status (Err (stop.BadInput why)) = input_status why
 open_status (Err (stop.No why)) = status.No
-open_status (Err (stop.Budget nodes)) = status.Budget
+open_status (Err (stop.Budget ledger)) = status.Budget
 open_status (Err (stop.Unwritten f u)) = write_status u.why
 open_status (Err stop.NoMemory) = status.NoMemory
 
@@ -59,10 +59,10 @@ fault_numbers (fault.Members total) = 1 ∷ total ∷ []
 fault_numbers (fault.NameTaken m) = 2 ∷ (m + 1) ∷ []
 
 abbrev pub open_text : Result OpenFinding OpenStop → List ℕ
-open_text (Ok f) = open_lines f.found f.nodes
+open_text (Ok f) = open_lines f.found (length f.ledger.entries)
 open_text (Err (stop.Unread why)) = unread_text why
 open_text (Err (stop.BadInput why)) = bad_input_text why
 open_text (Err (stop.No why)) = line_of (codes "no open") (fault_numbers why)
-open_text (Err (stop.Budget nodes)) = line_of (codes "budget") (nodes ∷ [])
+open_text (Err (stop.Budget ledger)) = line_of (codes "budget") (length ledger.entries ∷ [])
 open_text (Err (stop.Unwritten f u)) = unwritten_text u
 open_text (Err stop.NoMemory) = []

@@ -1,5 +1,5 @@
 -- How a run of `whatif` ends, and what it prints.
-use Rattle.std.specs.Prelude.{ℕ, List, [], ◌∷◌, ◌++◌, codes, Result, Ok, Err}
+use Rattle.std.specs.Prelude.{ℕ, List, [], ◌∷◌, ◌++◌, codes, length, Result, Ok, Err}
 use Rattle.bid_language.specs.Codes.{bid_code}
 use Rattle.bid_language.specs.declared.fault.BidFault.{BidFault}
 use Rattle.cert_text.specs.Codes.{cert_code}
@@ -23,7 +23,7 @@ whatif_status (Err (stop.Unread why)) = unread_status why
 whatif_status (Err (stop.BadInput why)) = input_status why
 whatif_status (Err (stop.BadBids fault)) = status.BadInput
 whatif_status (Err (stop.No why)) = status.No
-whatif_status (Err (stop.Budget nodes)) = status.Budget
+whatif_status (Err (stop.Budget ledger)) = status.Budget
 whatif_status (Err (stop.Unwritten w u)) = write_status u.why
 whatif_status (Err stop.NoMemory) = status.NoMemory
 
@@ -46,11 +46,11 @@ unasked_text name (unasked.Judged why) = line (codes "no" ++ no_text why)
 unasked_text name (unasked.Bids other) = line (codes "no bids " ++ other)
 
 abbrev pub whatif_text : List ℕ → Result WhatIf WhatIfStop → List ℕ
-whatif_text name (Ok w) = whatif_lines w.scores w.nodes
+whatif_text name (Ok w) = whatif_lines w.scores (length w.ledger.entries)
 whatif_text name (Err (stop.Unread why)) = unread_text why
 whatif_text name (Err (stop.BadInput why)) = bad_input_text why
 whatif_text name (Err (stop.BadBids fault)) = other_bids_text fault
 whatif_text name (Err (stop.No why)) = unasked_text name why
-whatif_text name (Err (stop.Budget nodes)) = line_of (codes "budget") (nodes ∷ [])
+whatif_text name (Err (stop.Budget ledger)) = line_of (codes "budget") (length ledger.entries ∷ [])
 whatif_text name (Err (stop.Unwritten w u)) = unwritten_text u
 whatif_text name (Err stop.NoMemory) = []

@@ -2,7 +2,7 @@
 ghost use Rattle.std.specs.Prelude.{◌≡◌, [], ◌∷◌, ◌++◌, codes, IfOk};
 ghost use Rattle.answer_texts.specs.AwardTexts.{award_status, award_text, found_status, first_text, last_text, lines_of};
 
-use crate::lines::{line_text, numbered, put_vector};
+use crate::lines::{budget_line, line_text, numbered, put_vector};
 use crate::month_ends::{bad_input_text, input_status, unread_status, unread_text};
 use crate::status::Status;
 use crate::write_ends::{unwritten_text, write_status};
@@ -76,10 +76,10 @@ pub fn award_text(alloc: Global, end: &Result<Finding, AwardStop>) -> Result<Lis
     ensures value { IfOk result (λ t. t ≡ award_text end.now) }
 {
     match end {
-        Ok(finding) => found_text(alloc, &finding.found, finding.nodes),
+        Ok(finding) => found_text(alloc, &finding.found, finding.ledger.len()),
         Err(AwardStop::Unread(why)) => unread_text(alloc, *why),
         Err(AwardStop::BadInput(why)) => bad_input_text(alloc, why),
-        Err(AwardStop::Budget(nodes)) => numbered(alloc, b"budget", &[u64::from(*nodes)]),
+        Err(AwardStop::Budget(ledger)) => budget_line(alloc, ledger),
         Err(AwardStop::Unwritten(_, stop)) => unwritten_text(alloc, *stop),
         Err(AwardStop::NoMemory) => Ok(List::new(alloc)),
     }

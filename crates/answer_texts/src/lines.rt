@@ -1,8 +1,9 @@
 //! Lines of text.
-ghost use Rattle.std.specs.Prelude.{◌≡◌, [], ◌∷◌, ◌++◌, codes, decimal, IfOk, OnOk};
+ghost use Rattle.std.specs.Prelude.{◌≡◌, [], ◌∷◌, ◌++◌, codes, decimal, length, IfOk, OnOk};
 ghost use Rattle.month_files.specs.FileNames.{name_of};
 ghost use Rattle.answer_texts.specs.Lines.{line, line_of, numbers};
 
+use branch_log::Ledger;
 use duty_calendar::{List, Memory};
 use field_text::put_bytes;
 use itoa::Buffer;
@@ -67,6 +68,13 @@ pub fn numbered(alloc: Global, word: &[u8], list: &[u64]) -> Result<List<u8>, Me
     put_numbers(&mut out, list)?;
     put_bytes(&mut out, b"\n")?;
     Ok(out)
+}
+
+/// The line of a budget that is spent, with this ledger.
+pub fn budget_line(alloc: Global, ledger: &Ledger) -> Result<List<u8>, Memory>
+    ensures value { IfOk result (λ t. t ≡ line_of (codes "budget") (length ledger.now.entries ∷ [])) }
+{
+    numbered(alloc, b"budget", &[u64::from(ledger.len())])
 }
 
 /// A line of words and a name behind them.

@@ -3,7 +3,7 @@ ghost use Rattle.std.specs.Prelude.{◌≡◌, ◌∷◌, ◌++◌, codes, IfOk,
 ghost use Rattle.answer_texts.specs.Lines.{line_of, numbers};
 ghost use Rattle.answer_texts.specs.OpenTexts.{fault_numbers, open_lines, open_status, open_text, opening_status, opening_text, row_line, row_lines, spaced, vacant_text};
 
-use crate::lines::{line_text, numbered, put_numbers, put_vector};
+use crate::lines::{budget_line, line_text, numbered, put_numbers, put_vector};
 use crate::month_ends::{bad_input_text, input_status, unread_status, unread_text};
 use crate::status::Status;
 use crate::write_ends::{unwritten_text, write_status};
@@ -142,11 +142,11 @@ pub fn open_text(alloc: Global, end: &Result<OpenFinding, OpenStop>) -> Result<L
     ensures value { IfOk result (λ t. t ≡ open_text end.now) }
 {
     match end {
-        Ok(finding) => open_lines(alloc, &finding.found, finding.nodes),
+        Ok(finding) => open_lines(alloc, &finding.found, finding.ledger.len()),
         Err(OpenStop::Unread(why)) => unread_text(alloc, *why),
         Err(OpenStop::BadInput(why)) => bad_input_text(alloc, why),
         Err(OpenStop::No(why)) => refused_line(alloc, *why),
-        Err(OpenStop::Budget(nodes)) => numbered(alloc, b"budget", &[u64::from(*nodes)]),
+        Err(OpenStop::Budget(ledger)) => budget_line(alloc, ledger),
         Err(OpenStop::Unwritten(_, stop)) => unwritten_text(alloc, *stop),
         Err(OpenStop::NoMemory) => Ok(List::new(alloc)),
     }

@@ -3,7 +3,7 @@ ghost use Rattle.std.specs.Prelude.{◌≡◌, IfOk};
 ghost use Rattle.answer_texts.specs.TrialTexts.{trial_status, trial_text};
 
 use crate::award_ends::{found_status, found_text};
-use crate::lines::numbered;
+use crate::lines::budget_line;
 use crate::status::Status;
 use duty_calendar::{List, Memory};
 use month_commands::{Miss, Tried};
@@ -25,8 +25,8 @@ pub fn trial_text(alloc: Global, end: &Result<Tried, Miss>) -> Result<List<u8>, 
     ensures value { IfOk result (λ t. t ≡ trial_text end.now) }
 {
     match end {
-        Ok(tried) => found_text(alloc, &tried.found, tried.nodes),
-        Err(Miss::Budget(nodes)) => numbered(alloc, b"budget", &[u64::from(*nodes)]),
+        Ok(tried) => found_text(alloc, &tried.found, tried.ledger.len()),
+        Err(Miss::Budget(ledger)) => budget_line(alloc, ledger),
         Err(Miss::NoMemory) => Ok(List::new(alloc)),
     }
 }

@@ -1,5 +1,5 @@
 //! How a run of `whatif` ends, and what it prints.
-ghost use Rattle.std.specs.Prelude.{◌≡◌, [], ◌∷◌, ◌++◌, codes, IfOk};
+ghost use Rattle.std.specs.Prelude.{◌≡◌, [], ◌∷◌, ◌++◌, codes, length, IfOk};
 ghost use Rattle.bid_language.specs.Codes.{bid_code};
 ghost use Rattle.month_files.specs.declared.file.File.TheVariants.{OtherBids};
 ghost use Rattle.answer_texts.specs.Lines.{line_of};
@@ -7,7 +7,7 @@ ghost use Rattle.answer_texts.specs.MonthEnds.{bad_words};
 ghost use Rattle.answer_texts.specs.WhatIfTexts.{other_bids_text, unasked_text, whatif_lines, whatif_status, whatif_text};
 
 use crate::check_ends::no_line;
-use crate::lines::{line_text, numbered, put_vector, titled};
+use crate::lines::{budget_line, line_text, numbered, put_vector, titled};
 use crate::month_ends::{bad_input_text, input_status, unread_status, unread_text};
 use crate::status::Status;
 use crate::write_ends::{unwritten_text, write_status};
@@ -35,11 +35,11 @@ pub fn whatif_status(end: &Result<WhatIf, WhatIfStop>) -> Status
 
 /// The lines of an award with the other bids.
 fn whatif_lines(alloc: Global, found: &WhatIf) -> Result<List<u8>, Memory>
-    ensures value { IfOk result (λ t. t ≡ whatif_lines found.now.scores found.now.nodes) }
+    ensures value { IfOk result (λ t. t ≡ whatif_lines found.now.scores (length found.now.ledger.entries)) }
 {
     let mut out = line_text(alloc, b"whatif")?;
     put_vector(&mut out, found.scores.as_slice())?;
-    let counted = numbered(alloc, b"nodes", &[u64::from(found.nodes)])?;
+    let counted = numbered(alloc, b"nodes", &[u64::from(found.ledger.len())])?;
     put_bytes(&mut out, counted.as_slice())?;
     Ok(out)
 }
@@ -100,7 +100,7 @@ pub fn whatif_text(
         Err(WhatIfStop::BadInput(why)) => bad_input_text(alloc, why),
         Err(WhatIfStop::BadBids(fault)) => other_bids_line(alloc, fault),
         Err(WhatIfStop::No(why)) => unasked_line(alloc, name, why),
-        Err(WhatIfStop::Budget(nodes)) => numbered(alloc, b"budget", &[u64::from(*nodes)]),
+        Err(WhatIfStop::Budget(ledger)) => budget_line(alloc, ledger),
         Err(WhatIfStop::Unwritten(_, stop)) => unwritten_text(alloc, *stop),
         Err(WhatIfStop::NoMemory) => Ok(List::new(alloc)),
     }

@@ -1,5 +1,5 @@
 -- What the award of a month comes to, from what the loop over places and the explanation answer.
-use Rattle.std.proofs.Common.{◌≡◌, ℕ, ◌+◌, ◌-◌, ◌*◌, ◌^◌, ◌<◌, ◌≤◌, List, [], length, take, refl, sym, ap, subst, ◌∙◌, arith, mul-le-mul_left}
+use Rattle.std.proofs.Common.{◌≡◌, ℕ, ◌+◌, ◌-◌, ◌*◌, ◌^◌, ◌<◌, ◌≤◌, List, [], length, take, refl, ap, ◌∙◌, arith, mul-le-mul_left}
 use Rattle.std.specs.Prelude.{All, None}
 use Rattle.roster_model.specs.declared.problem.Problem.{Problem}
 use Rattle.roster_model.specs.declared.goal.Goal.{Goal}
@@ -9,7 +9,7 @@ use Rattle.roster_model.specs.declared.award.Shown.{Shown}
 use Rattle.roster_model.specs.declared.award.Certificate.TheVariants as form
 use Rattle.roster_model.specs.Rosters.{scores_of}
 use Rattle.roster_model.specs.Awards.{IsBest, above_at, no_goal}
-use Rattle.roster_model.specs.Lawful.{AreGreatest, IsLawful, IsBidGoal, most_searches, bid_count}
+use Rattle.roster_model.specs.Lawful.{AreGreatest, IsBidGoal, most_searches, bid_count}
 use Rattle.roster_model.specs.Ledgers.{pairs_of}
 use Rattle.roster_model.specs.Splits.{splits_in, all_splits, shown_splits}
 use Rattle.roster_model.proofs.Bounds.{total_bids-bound}
@@ -17,9 +17,10 @@ use Rattle.roster_model.proofs.Greatest.{best-greatest}
 use Rattle.roster_model.proofs.Seniority.{greatest-first}
 use Rattle.branch_log.specs.Book.{Book, IsLawfulBook}
 use Rattle.completion_search.specs.Added.{AddsSearches, TakesSearches}
+use Rattle.completion_search.specs.Found.{IsFull}
 use Rattle.award_loop.specs.Outcomes.{IsAward, IsAwardGoal, IsNone, FitsAward, place_searches}
 use Rattle.denials.specs.Explained.{FitsDenials, IsExplained}
-use Rattle.month_award.specs.Months.{HasLedger, IsAwardedMonth, IsUnfillableMonth}
+use Rattle.month_award.specs.Months.{IsLedgerOf, IsFullLedger, IsAwardedMonth, IsUnfillableMonth}
 use Rattle.month_award.specs.Runs.{IsRun, HasAwarded}
 use Rattle.month_award.proofs.Closings.{AreTidy, closing-tidy}
 use Rattle.month_award.proofs.Reasons.{few-reasons}
@@ -31,13 +32,8 @@ pub best-first : (problem : Problem) (roster : List (List ℕ)) (proofs : List (
     → (k : ℕ) → k ≤ length problem.base.members → AreGreatest problem (take k (scores_of problem roster))
 best-first problem roster proofs best k few = greatest-first problem roster k best.complete (best-greatest problem roster proofs best) few
 
-run-ledger : (problem : Problem) (count : ℕ) (book : Book) → IsRun problem book → length book.entries ≡ count → HasLedger problem count
-run-ledger problem count book run counted = record {
-  goals = book.goals;
-  entries = book.entries;
-  lawful = subst (λ (n : ℕ). IsLawful problem n book.goals book.entries) run.rounds run.lawful;
-  counted = counted;
-}
+run-ledger : (problem : Problem) (nodes : ℕ) (book : Book) → IsRun problem book → book.cap ≡ nodes → IsLedgerOf problem nodes book
+run-ledger problem nodes book run cap = record { cap = cap; rounds = run.rounds; lawful = run.lawful }
 
 -- the loop over places is run over an empty ledger of 400 rounds
 module _ (problem : Problem) (nodes : ℕ) (before after : Book)
@@ -73,21 +69,20 @@ module _ (problem : Problem) (nodes : ℕ) (before after : Book)
     short = omega (arith, short, none-before);
   }
 
-  pub unfillable-month : (entries : ℕ) (proof : List Item) → IsRun problem after → IsNone problem after proof
-      → splits_in proof + length before.entries ≤ length after.entries → entries ≡ length after.entries
-      → IsUnfillableMonth problem nodes (record { certificate = form.NoRoster proof; entries = entries })
-  unfillable-month entries proof run none short counted = record {
+  pub unfillable-month : (proof : List Item) → IsRun problem after → IsNone problem after proof → splits_in proof + length before.entries ≤ length after.entries
+      → IsUnfillableMonth problem nodes (record { certificate = form.NoRoster proof; ledger = after })
+  unfillable-month proof run none short = record {
     proof = proof;
     of_none = refl;
     closes = none.closes;
     writable = none-writable proof (closing-tidy problem no_goal [] proof none.closes) (omega (arith, short, none.room, run.few));
-    ledger = run-ledger problem entries after run (sym counted);
-    room = omega (arith, counted, none.room, same-cap);
-    splits = omega (arith, counted, short);
+    ledger = run-ledger problem nodes after run same-cap;
+    room = omega (arith, none.room, same-cap);
+    splits = omega (arith, short);
   }
 
-  pub full-month : IsRun problem after → length after.entries ≡ after.cap → HasLedger problem nodes
-  full-month run full = run-ledger problem nodes after run (full ∙ same-cap)
+  pub full-month : IsRun problem after → IsFull after → IsFullLedger problem nodes after
+  full-month run full = record { is = run-ledger problem nodes after run same-cap; full = full }
 
   more-room : (p q t : ℕ) → (p + q) * t < nodes → p * t + q * t < nodes
   more-room p q t room = omega (arith, room)
@@ -121,30 +116,28 @@ award-fits problem nodes before made room =
 module _ (problem : Problem) (roster : List (List ℕ)) (proofs : List (List Item)) (before after : Book)
     (awarded : HasAwarded problem before roster proofs) (adds : AddsSearches problem (IsBidGoal problem) before after)
     (rounds : after.rounds ≡ 400) (lawful : IsLawfulBook problem after) where
-  book-ledger : (count : ℕ) → length after.entries ≡ count → HasLedger problem count
-  book-ledger count counted = record {
-    goals = after.goals;
-    entries = after.entries;
-    lawful = subst (λ (n : ℕ). IsLawful problem n after.goals after.entries) rounds lawful;
-    counted = counted;
-  }
+  same-ledger : IsLedgerOf problem before.cap after
+  same-ledger = record { cap = adds.cap; rounds = rounds; lawful = lawful }
 
-  pub awarded-month : (entries : ℕ) (reasons : List Denial) (shown : List Shown) → IsExplained problem roster after reasons shown
-      → shown_splits shown + length before.entries ≤ length after.entries → entries ≡ length after.entries
+  pub spent-month : IsFull after → IsFullLedger problem before.cap after
+  spent-month full = record { is = same-ledger; full = full }
+
+  pub awarded-month : (reasons : List Denial) (shown : List Shown) → IsExplained problem roster after reasons shown
+      → shown_splits shown + length before.entries ≤ length after.entries
       → IsAwardedMonth problem before.cap
-      (record { certificate = form.Award (record { proofs = proofs; shown = shown }); roster = roster; reasons = reasons; entries = entries })
-  awarded-month entries reasons shown said short counted =
+      (record { certificate = form.Award (record { proofs = proofs; shown = shown }); roster = roster; reasons = reasons; ledger = after })
+  awarded-month reasons shown said short =
       let tidy : AreTidy proofs = λ k proof here. closing-tidy problem (above_at (scores_of problem roster) k) [] proof (awarded.best.places k proof here) in
       let few = few-reasons problem roster reasons said.fit.listed in
       let places : length proofs ≤ 200 = omega (arith, awarded.best.count, problem.valid.month.members_form.few) in
-      let splits : all_splits proofs + shown_splits shown ≤ entries = omega (arith, short, awarded.short, counted) in
+      let splits : all_splits proofs + shown_splits shown ≤ length after.entries = omega (arith, short, awarded.short) in
       record {
         awarded = record { proofs = proofs; shown = shown };
         of_award = refl;
         accepted = record { best = awarded.best; denials = said.fit };
         few = few;
-        writable = award-writable proofs shown tidy (parts-tidy problem roster reasons shown said.fit) places (omega (arith, few, said.fit.count)) (omega (arith, splits, counted, said.room, adds.cap, awarded.run.few));
-        ledger = book-ledger entries (sym counted);
-        room = omega (arith, counted, said.room, adds.cap);
+        writable = award-writable proofs shown tidy (parts-tidy problem roster reasons shown said.fit) places (omega (arith, few, said.fit.count)) (omega (arith, splits, said.room, adds.cap, awarded.run.few));
+        ledger = same-ledger;
+        room = omega (arith, said.room, adds.cap);
         splits = splits;
       }

@@ -35,16 +35,16 @@ pub fn award_month<C: FreshCloser>(
     let mut ledger = Ledger::new(alloc, nodes, ROUNDS)?;
     match award(alloc, problem, &mut closer, &mut ledger)? {
         Outcome::Award(roster, proofs) => {
-            with_reasons(alloc, problem, &mut closer, &mut ledger, roster, proofs)
+            with_reasons(alloc, problem, &mut closer, ledger, roster, proofs)
         }
         Outcome::NoRoster(proof) => {
             let month = UnfillableMonth {
                 certificate: Certificate::NoRoster(proof),
-                entries: ledger.len(),
+                ledger,
             };
             Ok(MonthAward::NoRoster(month))
         }
-        Outcome::Spent => Ok(MonthAward::Budget),
+        Outcome::Spent => Ok(MonthAward::Budget(ledger)),
     }
 }
 
@@ -53,28 +53,27 @@ fn with_reasons<C: Closer>(
     alloc: Global,
     problem: &Problem,
     closer: &mut C,
-    ledger: &mut Ledger,
+    mut ledger: Ledger,
     roster: Roster,
     proofs: List<Proof>,
 ) -> Result<MonthAward, Memory>
     requires fits { C.fits closer.old problem.now }
-    requires rounds { C.rounds closer.old ≡ ledger.old.rounds }
-    requires awarded { HasAwarded problem.now ledger.old roster proofs }
-    ensures outcome { IfOk result (IsMonthAward problem.now ledger.old.cap) }
+    requires rounds { C.rounds closer.old ≡ ledger.rounds }
+    requires awarded { HasAwarded problem.now ledger roster proofs }
+    ensures outcome { IfOk result (IsMonthAward problem.now ledger.cap) }
     ensures seniority { IfOk result (GivesGreatestScores problem.now) }
-    ensures enough { FitsDenials problem.now ledger.old → IfOk result IsNotBudget }
+    ensures enough { FitsDenials problem.now ledger → IfOk result IsNotBudget }
 {
-    match explain(alloc, problem, closer, &roster, ledger)? {
+    match explain(alloc, problem, closer, &roster, &mut ledger)? {
         Explained::All(reasons, shown) => {
-            let entries = ledger.len();
             let month = AwardedMonth {
                 certificate: Certificate::Award(Awarded { proofs, shown }),
                 roster,
                 reasons,
-                entries,
+                ledger,
             };
             Ok(MonthAward::Award(month))
         }
-        Explained::Spent => Ok(MonthAward::Budget),
+        Explained::Spent => Ok(MonthAward::Budget(ledger)),
     }
 }

@@ -34,11 +34,11 @@ use Rattle.month_commands.proofs.HandedLaws.{inputs_held}
 -- ---- a search that ends with nothing found
 
 pub miss_cause : (at : Tally) (m : Miss) → AwardCause at at (Err (miss_stop m))
-miss_cause at (miss.Budget nodes) = refl
+miss_cause at (miss.Budget ledger) = refl
 miss_cause at miss.NoMemory = refl
 
 pub miss_left : (old new : Option Files) (m : Miss) → new ≡ old → Leaves old new (award_written (Err (miss_stop m)))
-miss_left old new (miss.Budget nodes) same = same
+miss_left old new (miss.Budget ledger) same = same
 miss_left old new miss.NoMemory same = same
 
 -- ---- over files whose inputs are read
@@ -50,7 +50,7 @@ module _ (files : Files) (nodes : ℕ) (inputs : Inputs) (read : texts_in files 
 
   module _ (problem : Problem) (names : Names inputs problem) where
     pub finds_nothing : (m : Miss) → IsFinding problem nodes (Err m) → IsAward files nodes (Err (miss_stop m))
-    finds_nothing (miss.Budget spent) h = record { inputs = inputs; read = read; problem = problem; names = names; found = h }
+    finds_nothing (miss.Budget ledger) h = record { inputs = inputs; read = read; problem = problem; names = names; found = h }
     finds_nothing miss.NoMemory h = tt
 
     pub is_found : (f : Finding) → IsFinding problem nodes (Ok f) → IsFound files nodes f
@@ -76,8 +76,8 @@ module _ (old new : Entries) (nodes : ℕ) (inputs : Inputs) (logged : new ≡ o
 
   module _ (problem : Problem) (names : Names inputs problem) where
     pub nothing_handed : (m : Miss) → IsFinding problem nodes (Err m) → IsAwardHanded old new nodes (Err (miss_stop m))
-    nothing_handed (miss.Budget spent) h =
-        from_inputs (λ files. OfMonth files (λ p. SpendsBudget p nodes spent)) (finds_nothing (holding (input_texts inputs)) nodes inputs held problem names (miss.Budget spent) h)
+    nothing_handed (miss.Budget ledger) h =
+        from_inputs (λ files. OfMonth files (λ p. SpendsBudget p nodes ledger)) (finds_nothing (holding (input_texts inputs)) nodes inputs held problem names (miss.Budget ledger) h)
     nothing_handed miss.NoMemory h = tt
 
     pub found_handed : (f : Finding) → IsFinding problem nodes (Ok f) → FromReads awarding_order old new (λ files. IsFound files nodes f)

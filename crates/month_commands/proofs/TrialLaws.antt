@@ -10,5 +10,5 @@ use Rattle.roster_model.specs.declared.problem.Problem.{Problem}
 pub is_trial : (number members pairings nodes : ℕ) (problem : Problem) → IsMade number members pairings problem → (r : Result Tried Miss) → IsTried problem nodes r
     → IsTrial number members pairings nodes r
 is_trial number members pairings nodes problem made (Ok t) h = record { problem = problem; made = made; found = h }
-is_trial number members pairings nodes problem made (Err (miss.Budget spent)) h = record { problem = problem; made = made; found = h }
+is_trial number members pairings nodes problem made (Err (miss.Budget ledger)) h = record { problem = problem; made = made; found = h }
 is_trial number members pairings nodes problem made (Err miss.NoMemory) h = tt

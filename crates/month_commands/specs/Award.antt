@@ -9,12 +9,13 @@ use Rattle.roster_model.specs.Rosters.{scores_of}
 use Rattle.roster_model.specs.Ledgers.{pairs_of}
 use Rattle.roster_model.specs.Lawful.{most_searches}
 use Rattle.roster_model.specs.declared.award.Denial.{Denial}
+use Rattle.branch_log.specs.Book.{Book}
 use Rattle.cert_text.specs.Reading.{certificate_in}
 use Rattle.cert_text.specs.Spelling.{written_text}
 use Rattle.month_award.specs.declared.outcome.AwardedMonth.{AwardedMonth}
 use Rattle.month_award.specs.declared.outcome.UnfillableMonth.{UnfillableMonth}
 use Rattle.month_award.specs.declared.outcome.MonthAward.TheVariants.{Award as MonthIsAwarded}
-use Rattle.month_award.specs.Months.{IsAwardedMonth, IsUnfillableMonth, GivesGreatestScores, HasLedger}
+use Rattle.month_award.specs.Months.{IsAwardedMonth, IsUnfillableMonth, IsFullLedger, GivesGreatestScores}
 use Rattle.month_files.specs.declared.fault.BadInput.{BadInput}
 use Rattle.month_files.specs.declared.fault.BadInput.TheVariants as bad
 use Rattle.month_files.specs.declared.fault.InputFault.{InputFault}
@@ -66,15 +67,15 @@ pub record AreReadableReasons (problem : Problem) (reasons : List Denial) : Type
   pub form : AllByRecursion (IsReason problem) reasons
   pub fits : length (reasons_text problem reasons) ≤ limit_of ReasonsFile
 
--- an award with its certificate and reasons, whose first scores are the greatest at each place; and the three files that
--- say it
-pub record FindsAward (problem : Problem) (nodes : ℕ) (scores : List ℕ) (denied entries : ℕ) (drafts : List Draft) : Type 0 where
+-- an award with its certificate, reasons and ledger, whose first scores are the greatest at each place; and the three files
+-- that say it
+pub record FindsAward (problem : Problem) (nodes : ℕ) (scores : List ℕ) (denied : ℕ) (ledger : Book) (drafts : List Draft) : Type 0 where
   pub month : AwardedMonth
   pub awarded : IsAwardedMonth problem nodes month
   pub seniors : GivesGreatestScores problem (MonthIsAwarded month)
   pub scores_are : scores ≡ scores_of problem month.roster
   pub denied_are : denied ≡ length month.reasons
-  pub counted : entries ≡ month.entries
+  pub ledger_is : ledger ≡ month.ledger
   pub drafts_are :
       drafts
       ≡ certificate_draft month.certificate ∷ reasons_draft problem month.reasons ∷ roster_draft problem month.roster ∷ []
@@ -82,32 +83,27 @@ pub record FindsAward (problem : Problem) (nodes : ℕ) (scores : List ℕ) (den
   pub reasons : AreReadableReasons problem month.reasons
   pub roster : IsReadableRoster problem month.roster
 
--- a certificate that there is no complete roster, and the file that says it
-pub record FindsNone (problem : Problem) (nodes entries : ℕ) (drafts : List Draft) : Type 0 where
+-- a certificate that there is no complete roster, its ledger, and the file that says it
+pub record FindsNone (problem : Problem) (nodes : ℕ) (ledger : Book) (drafts : List Draft) : Type 0 where
   pub month : UnfillableMonth
   pub unfillable : IsUnfillableMonth problem nodes month
-  pub counted : entries ≡ month.entries
+  pub ledger_is : ledger ≡ month.ledger
   pub drafts_are : drafts ≡ certificate_draft month.certificate ∷ []
   pub certificate : IsReadable month.certificate
 
-abbrev pub Finds : Problem → ℕ → Found → ℕ → List Draft → Type 0
-Finds problem nodes (found.Award scores denied) entries drafts = FindsAward problem nodes scores denied entries drafts
-Finds problem nodes found.NoRoster entries drafts = FindsNone problem nodes entries drafts
+abbrev pub Finds : Problem → ℕ → Found → Book → List Draft → Type 0
+Finds problem nodes (found.Award scores denied) ledger drafts = FindsAward problem nodes scores denied ledger drafts
+Finds problem nodes found.NoRoster ledger drafts = FindsNone problem nodes ledger drafts
 
--- so many nodes were counted; and they were so few that an award may take more
-pub record IsSpent (problem : Problem) (nodes : ℕ) : Type 0 where
-  pub ledger : HasLedger problem nodes
+-- the ledger is full, and so small that an award may take more
+pub record SpendsBudget (problem : Problem) (nodes : ℕ) (ledger : Book) : Type 0 where
+  pub all : IsFullLedger problem nodes ledger
   pub few : nodes ≤ most_searches problem * 2 ^ pairs_of problem
-
--- the budget that was spent is the one that was given
-pub record SpendsBudget (problem : Problem) (nodes spent : ℕ) : Type 0 where
-  pub all : spent ≡ nodes
-  pub spent_is : IsSpent problem nodes
 
 -- what the search comes to
 abbrev pub IsFinding : Problem → ℕ → Result Finding Miss → Type 0
-IsFinding problem nodes (Ok f) = Finds problem nodes f.found f.nodes f.drafts
-IsFinding problem nodes (Err (miss.Budget spent)) = SpendsBudget problem nodes spent
+IsFinding problem nodes (Ok f) = Finds problem nodes f.found f.ledger f.drafts
+IsFinding problem nodes (Err (miss.Budget ledger)) = SpendsBudget problem nodes ledger
 IsFinding problem nodes (Err miss.NoMemory) = Unit {0}
 
 -- ---- over files
@@ -131,7 +127,7 @@ IsBadMonth files (bad.Fault fault) = HasBadMonth files fault
 IsBadMonth files bad.NoMemory = Unit {0}
 
 abbrev pub IsFound : Files → ℕ → Finding → Type 0
-IsFound files nodes f = OfMonth files (λ problem. Finds problem nodes f.found f.nodes f.drafts)
+IsFound files nodes f = OfMonth files (λ problem. Finds problem nodes f.found f.ledger f.drafts)
 
 -- this was found, and the file behind those that were written was not
 pub record IsUnwritten (files : Files) (nodes : ℕ) (f : Finding) (u : Unwritten) : Type 0 where
@@ -142,7 +138,7 @@ abbrev pub IsAward : Files → ℕ → Result Finding AwardStop → Type 0
 IsAward files nodes (Ok f) = IsFound files nodes f
 IsAward files nodes (Err (stop.Unread why)) = UnreadIs why (texts_in files)
 IsAward files nodes (Err (stop.BadInput why)) = IsBadMonth files why
-IsAward files nodes (Err (stop.Budget spent)) = OfMonth files (λ problem. SpendsBudget problem nodes spent)
+IsAward files nodes (Err (stop.Budget ledger)) = OfMonth files (λ problem. SpendsBudget problem nodes ledger)
 IsAward files nodes (Err (stop.Unwritten f u)) = IsUnwritten files nodes f u
 IsAward files nodes (Err stop.NoMemory) = Unit {0}
 
@@ -155,6 +151,6 @@ abbrev pub IsAwardHanded : Entries → Entries → ℕ → Result Finding AwardS
 IsAwardHanded old new nodes (Ok f) = FromReads awarding_order old new (λ files. IsFound files nodes f)
 IsAwardHanded old new nodes (Err (stop.Unread why)) = Unit {0}
 IsAwardHanded old new nodes (Err (stop.BadInput why)) = FromReads awarding_order old new (λ files. IsBadMonth files why)
-IsAwardHanded old new nodes (Err (stop.Budget spent)) = FromReads awarding_order old new (λ files. OfMonth files (λ problem. SpendsBudget problem nodes spent))
+IsAwardHanded old new nodes (Err (stop.Budget ledger)) = FromReads awarding_order old new (λ files. OfMonth files (λ problem. SpendsBudget problem nodes ledger))
 IsAwardHanded old new nodes (Err (stop.Unwritten f u)) = FromReads awarding_order old new (λ files. IsUnwritten files nodes f u)
 IsAwardHanded old new nodes (Err stop.NoMemory) = Unit {0}

@@ -12,7 +12,7 @@ use Rattle.month_commands.specs.declared.award_stop.Miss.{Miss}
 use Rattle.month_commands.specs.declared.award_stop.Miss.TheVariants as miss
 
 abbrev pub miss_stop : Miss → AwardStop
-miss_stop (miss.Budget nodes) = stop.Budget nodes
+miss_stop (miss.Budget ledger) = stop.Budget ledger
 miss_stop miss.NoMemory = stop.NoMemory
 
 -- which change of the shelf's counts an end comes with
@@ -20,7 +20,7 @@ abbrev pub AwardCause : Tally → Tally → Result Finding AwardStop → Type 0
 AwardCause old new (Ok f) = new ≡ old
 AwardCause old new (Err (stop.Unread why)) = UnreadCause old new why
 AwardCause old new (Err (stop.BadInput why)) = new ≡ old
-AwardCause old new (Err (stop.Budget nodes)) = new ≡ old
+AwardCause old new (Err (stop.Budget ledger)) = new ≡ old
 AwardCause old new (Err (stop.Unwritten f u)) = StopCause (name_of u.file) old new u.why
 AwardCause old new (Err stop.NoMemory) = new ≡ old
 
@@ -29,6 +29,6 @@ abbrev pub award_written : Result Finding AwardStop → Written
 award_written (Ok f) = written f.drafts (Ok tt)
 award_written (Err (stop.Unread why)) = nothing_written
 award_written (Err (stop.BadInput why)) = nothing_written
-award_written (Err (stop.Budget nodes)) = nothing_written
+award_written (Err (stop.Budget ledger)) = nothing_written
 award_written (Err (stop.Unwritten f u)) = written f.drafts (Err u)
 award_written (Err stop.NoMemory) = nothing_written

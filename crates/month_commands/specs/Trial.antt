@@ -1,5 +1,6 @@
 -- What `trial` finds of a month that is made of a number.
 use Rattle.std.specs.Prelude.{◌≡◌, ℕ, List, length, Result, Ok, Err}
+use Rattle.branch_log.specs.Book.{Book}
 use Rattle.month_award.specs.declared.outcome.AwardedMonth.{AwardedMonth}
 use Rattle.month_award.specs.declared.outcome.UnfillableMonth.{UnfillableMonth}
 use Rattle.month_award.specs.declared.outcome.MonthAward.TheVariants.{Award as MonthIsAwarded}
@@ -15,34 +16,34 @@ use Rattle.month_commands.specs.Award.{SpendsBudget}
 use Rattle.month_commands.specs.Make.{OfMade}
 
 -- an award with its certificate and reasons, whose first scores are the greatest at each place
-pub record TriesAward (problem : Problem) (nodes : ℕ) (scores : List ℕ) (denied entries : ℕ) : Type 0 where
+pub record TriesAward (problem : Problem) (nodes : ℕ) (scores : List ℕ) (denied : ℕ) (ledger : Book) : Type 0 where
   pub month : AwardedMonth
   pub awarded : IsAwardedMonth problem nodes month
   pub seniors : GivesGreatestScores problem (MonthIsAwarded month)
   pub scores_are : scores ≡ scores_of problem month.roster
   pub denied_are : denied ≡ length month.reasons
-  pub counted : entries ≡ month.entries
+  pub ledger_is : ledger ≡ month.ledger
 
 -- a certificate that there is no complete roster
-pub record TriesNone (problem : Problem) (nodes entries : ℕ) : Type 0 where
+pub record TriesNone (problem : Problem) (nodes : ℕ) (ledger : Book) : Type 0 where
   pub month : UnfillableMonth
   pub unfillable : IsUnfillableMonth problem nodes month
-  pub counted : entries ≡ month.entries
+  pub ledger_is : ledger ≡ month.ledger
 
-abbrev pub Tries : Problem → ℕ → Found → ℕ → Type 0
-Tries problem nodes (found.Award scores denied) entries = TriesAward problem nodes scores denied entries
-Tries problem nodes found.NoRoster entries = TriesNone problem nodes entries
+abbrev pub Tries : Problem → ℕ → Found → Book → Type 0
+Tries problem nodes (found.Award scores denied) ledger = TriesAward problem nodes scores denied ledger
+Tries problem nodes found.NoRoster ledger = TriesNone problem nodes ledger
 
 -- what the search comes to
 abbrev pub IsTried : Problem → ℕ → Result Tried Miss → Type 0
-IsTried problem nodes (Ok t) = Tries problem nodes t.found t.nodes
-IsTried problem nodes (Err (miss.Budget spent)) = SpendsBudget problem nodes spent
+IsTried problem nodes (Ok t) = Tries problem nodes t.found t.ledger
+IsTried problem nodes (Err (miss.Budget ledger)) = SpendsBudget problem nodes ledger
 IsTried problem nodes (Err miss.NoMemory) = Unit {0}
 
 -- and of which month
 abbrev pub IsTrial : ℕ → ℕ → ℕ → ℕ → Result Tried Miss → Type 0
 IsTrial number members pairings nodes (Ok t) =
-    OfMade number members pairings (λ problem. Tries problem nodes t.found t.nodes)
-IsTrial number members pairings nodes (Err (miss.Budget spent)) =
-    OfMade number members pairings (λ problem. SpendsBudget problem nodes spent)
+    OfMade number members pairings (λ problem. Tries problem nodes t.found t.ledger)
+IsTrial number members pairings nodes (Err (miss.Budget ledger)) =
+    OfMade number members pairings (λ problem. SpendsBudget problem nodes ledger)
 IsTrial number members pairings nodes (Err miss.NoMemory) = Unit {0}

@@ -4,6 +4,7 @@ ghost use Rattle.month_commands.specs.AwardEnds.{miss_stop};
 ghost use Rattle.month_commands.specs.declared.award_stop.AwardStop.TheVariants.{Unread as NotRead, BadInput as Bad};
 ghost use Rattle.month_commands.specs.declared.award_stop.Miss.TheVariants.{NoMemory as NoRoom};
 
+use branch_log::Ledger;
 use duty_calendar::{List, Memory};
 use month_files::{BadInput, Draft, Unread, Unwritten};
 
@@ -20,16 +21,16 @@ pub enum Found {
 #[derive(Drop, Debug)]
 pub struct Finding {
     pub found: Found,
-    /// How many nodes were counted.
-    pub nodes: u32,
+    /// The open nodes that were counted.
+    pub ledger: Ledger,
     pub drafts: List<Draft>,
 }
 
 /// Why nothing was found.
-#[derive(Clone, Copy, Debug, PartialEq, Eq)]
+#[derive(Drop, Debug)]
 pub enum Miss {
-    /// So many nodes were counted, and were not enough.
-    Budget(u32),
+    /// These nodes were counted, and were not enough.
+    Budget(Ledger),
     /// No memory was left.
     NoMemory,
 }
@@ -49,8 +50,8 @@ pub enum AwardStop {
     Unread(Unread),
     /// The inputs name no problem.
     BadInput(BadInput),
-    /// So many nodes were counted, and were not enough.
-    Budget(u32),
+    /// These nodes were counted, and were not enough.
+    Budget(Ledger),
     /// This was found, and a file was not written.
     Unwritten(Finding, Unwritten),
     /// No memory was left.
@@ -78,7 +79,7 @@ impl From<Miss> for AwardStop {
 
     fn from(miss: Miss) -> AwardStop {
         match miss {
-            Miss::Budget(nodes) => AwardStop::Budget(nodes),
+            Miss::Budget(ledger) => AwardStop::Budget(ledger),
             Miss::NoMemory => AwardStop::NoMemory,
         }
     }

@@ -28,6 +28,13 @@ use roster_text::{print_reasons, print_roster};
 use shelf::Shelf;
 use std::alloc::Global;
 
+/// What was found, and the files that say it.
+#[derive(Drop)]
+struct Said {
+    found: Found,
+    drafts: List<Draft>,
+}
+
 /// The files to write, of which the first is the certificate's.
 fn certificate_drafts(alloc: Global, certificate: &Certificate) -> Result<List<Draft>, Memory>
     requires writable { IsWritable certificate.now }
@@ -101,19 +108,18 @@ fn awarded(
     problem: &Problem,
     nodes: u32,
     month: &AwardedMonth,
-) -> Result<Finding, Memory>
+) -> Result<Said, Memory>
     requires month { IsAwardedMonth problem.now nodes month.now }
     requires seniors { GivesGreatestScores problem.now (MonthIsAwarded month.now) }
-    ensures found { IfOk result (λ f. Finds problem.now nodes f.found f.nodes f.drafts) }
+    ensures found { IfOk result (λ s. Finds problem.now nodes s.found month.now.ledger s.drafts) }
 {
     let _ = nodes;
     let mut drafts = certificate_drafts(alloc, &month.certificate)?;
     add_reasons(alloc, &mut drafts, problem, &month.reasons)?;
     add_roster(alloc, &mut drafts, problem, &month.roster)?;
     let scores = scores_of(alloc, problem, &month.roster)?;
-    Ok(Finding {
+    Ok(Said {
         found: Found::Award(scores, month.reasons.len() as u32),
-        nodes: month.entries,
         drafts,
     })
 }
@@ -124,16 +130,15 @@ fn unfillable(
     problem: &Problem,
     nodes: u32,
     month: &UnfillableMonth,
-) -> Result<Finding, Memory>
+) -> Result<Said, Memory>
     requires month { IsUnfillableMonth problem.now nodes month.now }
-    ensures found { IfOk result (λ f. Finds problem.now nodes f.found f.nodes f.drafts) }
+    ensures found { IfOk result (λ s. Finds problem.now nodes s.found month.now.ledger s.drafts) }
 {
     let _ = problem;
     let _ = nodes;
     let drafts = certificate_drafts(alloc, &month.certificate)?;
-    Ok(Finding {
+    Ok(Said {
         found: Found::NoRoster,
-        nodes: month.entries,
         drafts,
     })
 }
@@ -145,9 +150,23 @@ fn find<C: FreshCloser>(alloc: Global, problem: &Problem, nodes: u32) -> Result<
     ensures found { IsFinding problem.now nodes result }
 {
     match award_month::<C>(alloc, problem, nodes)? {
-        MonthAward::Award(month) => Ok(awarded(alloc, problem, nodes, &month)?),
-        MonthAward::NoRoster(month) => Ok(unfillable(alloc, problem, nodes, &month)?),
-        MonthAward::Budget => Err(Miss::Budget(nodes)),
+        MonthAward::Award(month) => {
+            let said = awarded(alloc, problem, nodes, &month)?;
+            Ok(Finding {
+                found: said.found,
+                ledger: month.ledger,
+                drafts: said.drafts,
+            })
+        }
+        MonthAward::NoRoster(month) => {
+            let said = unfillable(alloc, problem, nodes, &month)?;
+            Ok(Finding {
+                found: said.found,
+                ledger: month.ledger,
+                drafts: said.drafts,
+            })
+        }
+        MonthAward::Budget(ledger) => Err(Miss::Budget(ledger)),
     }
 }
 

@@ -11,7 +11,7 @@ ghost use Rattle.month_commands.specs.Trial.{Tries, IsTried, IsTrial};
 
 use crate::award_stop::{Found, Miss};
 use bid_score::scores_of;
-use branch_log::FreshCloser;
+use branch_log::{FreshCloser, Ledger};
 use cert_checker::{No, judge, judge_none};
 use duty_calendar::Memory;
 use month_award::{AwardedMonth, MonthAward, UnfillableMonth, award_month};
@@ -22,8 +22,8 @@ use std::alloc::Global;
 #[derive(Drop, Debug)]
 pub struct Tried {
     pub found: Found,
-    /// How many nodes were counted.
-    pub nodes: u32,
+    /// The open nodes that were counted.
+    pub ledger: Ledger,
 }
 
 /// Judges an award, which is accepted.
@@ -62,10 +62,10 @@ fn awarded(
     problem: &Problem,
     nodes: u32,
     month: &AwardedMonth,
-) -> Result<Tried, Memory>
+) -> Result<Found, Memory>
     requires month { IsAwardedMonth problem.now nodes month.now }
     requires seniors { GivesGreatestScores problem.now (MonthIsAwarded month.now) }
-    ensures tried { IfOk result (λ t. Tries problem.now nodes t.found t.nodes) }
+    ensures tried { IfOk result (λ f. Tries problem.now nodes f month.now.ledger) }
 {
     let _ = nodes;
     let Certificate::Award(awarded) = &month.certificate else {
@@ -73,10 +73,7 @@ fn awarded(
     };
     judge_award(alloc, problem, &month.roster, &month.reasons, awarded)?;
     let scores = scores_of(alloc, problem, &month.roster)?;
-    Ok(Tried {
-        found: Found::Award(scores, month.reasons.len() as u32),
-        nodes: month.entries,
-    })
+    Ok(Found::Award(scores, month.reasons.len() as u32))
 }
 
 /// What is said of a month that no roster fills. The proof of that is judged.
@@ -85,19 +82,16 @@ fn unfillable(
     problem: &Problem,
     nodes: u32,
     month: &UnfillableMonth,
-) -> Result<Tried, Memory>
+) -> Result<Found, Memory>
     requires month { IsUnfillableMonth problem.now nodes month.now }
-    ensures tried { IfOk result (λ t. Tries problem.now nodes t.found t.nodes) }
+    ensures tried { IfOk result (λ f. Tries problem.now nodes f month.now.ledger) }
 {
     let _ = nodes;
     let Certificate::NoRoster(proof) = &month.certificate else {
         unreachable!();
     };
     judge_proof(alloc, problem, proof)?;
-    Ok(Tried {
-        found: Found::NoRoster,
-        nodes: month.entries,
-    })
+    Ok(Found::NoRoster)
 }
 
 /// What comes of the award of a month with so many nodes at most.
@@ -107,9 +101,21 @@ fn try_month<C: FreshCloser>(alloc: Global, problem: &Problem, nodes: u32) -> Re
     ensures tried { IsTried problem.now nodes result }
 {
     match award_month::<C>(alloc, problem, nodes)? {
-        MonthAward::Award(month) => Ok(awarded(alloc, problem, nodes, &month)?),
-        MonthAward::NoRoster(month) => Ok(unfillable(alloc, problem, nodes, &month)?),
-        MonthAward::Budget => Err(Miss::Budget(nodes)),
+        MonthAward::Award(month) => {
+            let found = awarded(alloc, problem, nodes, &month)?;
+            Ok(Tried {
+                found,
+                ledger: month.ledger,
+            })
+        }
+        MonthAward::NoRoster(month) => {
+            let found = unfillable(alloc, problem, nodes, &month)?;
+            Ok(Tried {
+                found,
+                ledger: month.ledger,
+            })
+        }
+        MonthAward::Budget(ledger) => Err(Miss::Budget(ledger)),
     }
 }
 

@@ -119,7 +119,7 @@ three_more start a b c d x y z e f g h =
     h ∙ ap (λ (l : List Draft). l ++ z ∷ []) (g ∙ ap (λ (l : List Draft). l ++ y ∷ []) (f ∙ ap (λ (l : List Draft). l ++ x ∷ []) e))
     ∙ append_assoc (start ++ x ∷ []) (y ∷ []) (z ∷ []) ∙ append_assoc start (x ∷ []) (y ∷ z ∷ [])
 
-module _ (problem : Problem) (most nodes entries : ℕ) (few : nodes ≤ 20000) where
+module _ (problem : Problem) (most nodes : ℕ) (few : nodes ≤ 20000) where
   module _ (count : ℕ) (below : Option (List Item)) (roster : List (List ℕ)) (awarded : Awarded) (reasons : List Denial) (book : Book)
       (is : IsOpenedAward problem most nodes count below roster awarded reasons book) where
     pub few_below : splits_of below ≤ 20000
@@ -130,8 +130,8 @@ module _ (problem : Problem) (most nodes entries : ℕ) (few : nodes ≤ 20000) 
 
     pub finds_award : (scores : List ℕ) (rows : List OpenRow) (drafts : List Draft) → HasRoomFor problem most
         → SaysAward problem count below roster reasons awarded scores rows drafts
-        → entries ≡ length book.entries → FindsOpen problem most nodes count scores rows entries drafts
-    finds_award scores rows drafts room says counted = record {
+        → FindsOpen problem most nodes count scores rows book drafts
+    finds_award scores rows drafts room says = record {
       below = below;
       roster = roster;
       reasons = reasons;
@@ -143,9 +143,9 @@ module _ (problem : Problem) (most nodes entries : ℕ) (few : nodes ≤ 20000) 
       award = is.award;
       settled = is.settled;
       says = says;
-      ledger = record { book = book; run = is.run; counted = counted };
-      room = omega (arith, counted, is.room, is.run.run.cap);
-      splits = omega (arith, counted, is.splits);
+      run = is.run;
+      room = omega (arith, is.room, is.run.run.cap);
+      splits = is.splits;
     }
 
   module _ (proof : List Item) (book : Book) (is : IsOpenedNone problem most nodes proof book) where
@@ -154,39 +154,39 @@ module _ (problem : Problem) (most nodes entries : ℕ) (few : nodes ≤ 20000) 
         writable_none problem (suc most) (Some proof) (proof, refl, is.refuted) (omega (arith, is.splits, is.room, is.run.run.cap, few))
 
     pub finds_none : (drafts : List Draft) → HasRoomFor problem most → drafts ≡ none_drafts (Some proof) → ForSome (Some proof) (λ items. IsReadable OpenNone (form.NoRoster items))
-        → entries ≡ length book.entries → FindsNone problem most nodes entries drafts
-    finds_none drafts room drafts_are readable counted = record {
+        → FindsNone problem most nodes book drafts
+    finds_none drafts room drafts_are readable = record {
       proof = proof;
       most_fit = room;
       refuted = is.refuted;
-      ledger = record { book = book; run = is.run; counted = counted };
-      room = omega (arith, counted, is.room, is.run.run.cap);
-      splits = omega (arith, counted, is.splits);
+      run = is.run;
+      room = omega (arith, is.room, is.run.run.cap);
+      splits = is.splits;
       drafts_are = drafts_are;
       readable = readable proof refl;
     }
 
 pub spends : (problem : Problem) (most nodes count : ℕ) (book : Book) → HasRoomFor problem most → IsOpenedSpent problem most nodes count book
-    → IsSpent problem most nodes nodes
+    → IsSpent problem most nodes book
 spends problem most nodes count book room is = record {
-  all = refl;
   most_fit = room;
   count = count;
   within = is.within;
   fewer = is.fewer;
-  ledger = record { book = book; run = is.run; counted = sym (is.full ∙ is.run.run.cap) };
+  run = is.run;
+  full = is.full;
 }
 
 -- ---- a search that ends with nothing found
 
 pub miss_cause : (at : Tally) (m : OpenMiss) → OpenCause at at (Err (miss_end m))
 miss_cause at (miss.No why) = refl
-miss_cause at (miss.Budget nodes) = refl
+miss_cause at (miss.Budget ledger) = refl
 miss_cause at miss.NoMemory = refl
 
 pub miss_left : (old new : Option Files) (m : OpenMiss) → new ≡ old → Leaves old new (open_written (Err (miss_end m)))
 miss_left old new (miss.No why) same = same
-miss_left old new (miss.Budget nodes) same = same
+miss_left old new (miss.Budget ledger) same = same
 miss_left old new miss.NoMemory same = same
 
 -- ---- over files whose inputs are read
@@ -199,7 +199,7 @@ module _ (files : Files) (most nodes : ℕ) (inputs : Inputs) (read : texts_in f
   module _ (problem : Problem) (names : Names inputs problem) where
     pub finds_nothing : (m : OpenMiss) → IsOpenEnd problem most nodes (Err m) → IsOpen files most nodes (Err (miss_end m))
     finds_nothing (miss.No why) h = record { inputs = inputs; read = read; problem = problem; names = names; found = h }
-    finds_nothing (miss.Budget spent) h = record { inputs = inputs; read = read; problem = problem; names = names; found = h }
+    finds_nothing (miss.Budget ledger) h = record { inputs = inputs; read = read; problem = problem; names = names; found = h }
     finds_nothing miss.NoMemory h = tt
 
     pub is_found : (f : OpenFinding) → IsOpenEnd problem most nodes (Ok f) → IsFound files most nodes f
@@ -224,8 +224,8 @@ module _ (old new : Entries) (most nodes : ℕ) (inputs : Inputs) (logged : new 
     pub nothing_handed : (m : OpenMiss) → IsOpenEnd problem most nodes (Err m) → IsOpenHanded old new most nodes (Err (miss_end m))
     nothing_handed (miss.No why) h =
         from_inputs (λ files. OfMonth files (λ p. IsRefused p most why)) (finds_nothing (holding (input_texts inputs)) most nodes inputs held problem names (miss.No why) h)
-    nothing_handed (miss.Budget spent) h =
-        from_inputs (λ files. OfMonth files (λ p. IsSpent p most nodes spent)) (finds_nothing (holding (input_texts inputs)) most nodes inputs held problem names (miss.Budget spent) h)
+    nothing_handed (miss.Budget ledger) h =
+        from_inputs (λ files. OfMonth files (λ p. IsSpent p most nodes ledger)) (finds_nothing (holding (input_texts inputs)) most nodes inputs held problem names (miss.Budget ledger) h)
     nothing_handed miss.NoMemory h = tt
 
     pub found_handed : (f : OpenFinding) → IsOpenEnd problem most nodes (Ok f) → FromReads opening_order old new (λ files. IsFound files most nodes f)

@@ -14,6 +14,7 @@ use Rattle.roster_model.specs.Awards.{IsGreatest}
 use Rattle.roster_model.specs.Rosters.{scores_of}
 use Rattle.roster_model.specs.Splits.{splits_in, all_splits, shown_splits}
 use Rattle.branch_log.specs.Book.{Book}
+use Rattle.completion_search.specs.Found.{IsFull}
 use Rattle.cert_text.specs.Reading.{certificate_in}
 use Rattle.cert_text.specs.Spelling.{written_text}
 use Rattle.month_files.specs.declared.fault.BadInput.{BadInput}
@@ -91,13 +92,6 @@ pub record AreAwardDrafts (made : Problem) (below : Option (List Item)) (roster 
 
 -- ---- what is found
 
--- a lawful ledger of the month with so many vacant lines, by 400 rounds and with room for so many nodes, has so many
--- entries
-pub record HasLedgerWith (problem : Problem) (count nodes entries : ℕ) : Type 0 where
-  pub book : Book
-  pub run : IsRunWith problem count nodes book
-  pub counted : entries ≡ length book.entries
-
 -- What is said of an award with so many vacant lines: its scores, than which no complete roster has greater ones; the
 -- pairings that vacant lines have, and who may fly them; and the files, each of which is read as what it says.
 pub record SaysAward (problem : Problem) (count : ℕ) (below : Option (List Item)) (roster : List (List ℕ)) (reasons : List Denial) (awarded : Awarded) (scores : List ℕ) (rows : List OpenRow) (drafts : List Draft) : Type 0 where
@@ -115,7 +109,7 @@ pub record SaysAward (problem : Problem) (count : ℕ) (below : Option (List Ite
 -- As many vacant lines as were asked for can be added. So many are needed, no more than that, and no lesser number is
 -- enough; the award with them is accepted, with the proof that one less is not enough; no pairing can go from a vacant line to a
 -- member so that all lines stay legal and each score what it is; and it is said so.
-pub record FindsOpen (problem : Problem) (most nodes count : ℕ) (scores : List ℕ) (rows : List OpenRow) (entries : ℕ) (drafts : List Draft) : Type 0 where
+pub record FindsOpen (problem : Problem) (most nodes count : ℕ) (scores : List ℕ) (rows : List OpenRow) (ledger : Book) (drafts : List Draft) : Type 0 where
   pub below : Option (List Item)
   pub roster : List (List ℕ)
   pub reasons : List Denial
@@ -127,34 +121,34 @@ pub record FindsOpen (problem : Problem) (most nodes count : ℕ) (scores : List
   pub award : IsOpenAward problem count below roster reasons awarded
   pub settled : IsSettledWith problem count roster
   pub says : SaysAward problem count below roster reasons awarded scores rows drafts
-  pub ledger : HasLedgerWith problem count nodes entries
-  pub room : entries < nodes
-  pub splits : all_splits awarded.proofs + shown_splits awarded.shown ≤ entries
+  pub run : IsRunWith problem count nodes ledger
+  pub room : length ledger.entries < nodes
+  pub splits : all_splits awarded.proofs + shown_splits awarded.shown ≤ length ledger.entries
 
 -- the most that were asked for can be added, a proof that they are not enough, and the file that says it
-pub record FindsNone (problem : Problem) (most nodes entries : ℕ) (drafts : List Draft) : Type 0 where
+pub record FindsNone (problem : Problem) (most nodes : ℕ) (ledger : Book) (drafts : List Draft) : Type 0 where
   pub proof : List Item
   pub most_fit : HasRoomFor problem most
   pub refuted : IsRefutedWith problem most proof
-  pub ledger : HasLedgerWith problem most nodes entries
-  pub room : entries < nodes
-  pub splits : splits_in proof ≤ entries
+  pub run : IsRunWith problem most nodes ledger
+  pub room : length ledger.entries < nodes
+  pub splits : splits_in proof ≤ length ledger.entries
   pub drafts_are : drafts ≡ certificate_draft OpenNone (form.NoRoster proof) ∷ []
   pub readable : IsReadable OpenNone (form.NoRoster proof)
 
-abbrev pub Finds : Problem → ℕ → ℕ → Opening → ℕ → List Draft → Type 0
-Finds problem most nodes (Award count scores rows) entries drafts = FindsOpen problem most nodes count scores rows entries drafts
-Finds problem most nodes NoRoster entries drafts = FindsNone problem most nodes entries drafts
+abbrev pub Finds : Problem → ℕ → ℕ → Opening → Book → List Draft → Type 0
+Finds problem most nodes (Award count scores rows) ledger drafts = FindsOpen problem most nodes count scores rows ledger drafts
+Finds problem most nodes NoRoster ledger drafts = FindsNone problem most nodes ledger drafts
 
 -- the most vacant lines that were asked for can be added; for one of the numbers up to that, one less is not enough, and its
 -- ledger is full
-pub record IsSpent (problem : Problem) (most nodes spent : ℕ) : Type 0 where
-  pub all : spent ≡ nodes
+pub record IsSpent (problem : Problem) (most nodes : ℕ) (ledger : Book) : Type 0 where
   pub most_fit : HasRoomFor problem most
   pub count : ℕ
   pub within : count ≤ most
   pub fewer : IsUnfilledBelow problem count
-  pub ledger : HasLedgerWith problem count nodes nodes
+  pub run : IsRunWith problem count nodes ledger
+  pub full : IsFull ledger
 
 -- so many cannot be added, for this reason
 abbrev pub IsRefused : Problem → ℕ → OpenFault → Type 0
@@ -162,9 +156,9 @@ IsRefused problem most why = (why ≢ fault.NoMemory) × IsOpenFault problem mos
 
 -- what the search comes to
 abbrev pub IsOpenEnd : Problem → ℕ → ℕ → Result OpenFinding OpenMiss → Type 0
-IsOpenEnd problem most nodes (Ok f) = Finds problem most nodes f.found f.nodes f.drafts
+IsOpenEnd problem most nodes (Ok f) = Finds problem most nodes f.found f.ledger f.drafts
 IsOpenEnd problem most nodes (Err (miss.No why)) = IsRefused problem most why
-IsOpenEnd problem most nodes (Err (miss.Budget spent)) = IsSpent problem most nodes spent
+IsOpenEnd problem most nodes (Err (miss.Budget ledger)) = IsSpent problem most nodes ledger
 IsOpenEnd problem most nodes (Err miss.NoMemory) = Unit {0}
 
 -- ---- over files
@@ -188,7 +182,7 @@ IsBadMonth files (bad.Fault why) = HasBadMonth files why
 IsBadMonth files bad.NoMemory = Unit {0}
 
 abbrev pub IsFound : Files → ℕ → ℕ → OpenFinding → Type 0
-IsFound files most nodes f = OfMonth files (λ problem. Finds problem most nodes f.found f.nodes f.drafts)
+IsFound files most nodes f = OfMonth files (λ problem. Finds problem most nodes f.found f.ledger f.drafts)
 
 -- this was found, and the file behind those that were written was not
 pub record IsUnwritten (files : Files) (most nodes : ℕ) (f : OpenFinding) (u : Unwritten) : Type 0 where
@@ -200,7 +194,7 @@ IsOpen files most nodes (Ok f) = IsFound files most nodes f
 IsOpen files most nodes (Err (stop.Unread why)) = UnreadIs why (texts_in files)
 IsOpen files most nodes (Err (stop.BadInput why)) = IsBadMonth files why
 IsOpen files most nodes (Err (stop.No why)) = OfMonth files (λ problem. IsRefused problem most why)
-IsOpen files most nodes (Err (stop.Budget spent)) = OfMonth files (λ problem. IsSpent problem most nodes spent)
+IsOpen files most nodes (Err (stop.Budget ledger)) = OfMonth files (λ problem. IsSpent problem most nodes ledger)
 IsOpen files most nodes (Err (stop.Unwritten f u)) = IsUnwritten files most nodes f u
 IsOpen files most nodes (Err stop.NoMemory) = Unit {0}
 
@@ -217,8 +211,8 @@ IsOpenHanded old new most nodes (Err (stop.Unread why)) = Unit {0}
 IsOpenHanded old new most nodes (Err (stop.BadInput why)) = FromReads opening_order old new (λ files. IsBadMonth files why)
 IsOpenHanded old new most nodes (Err (stop.No why)) =
     FromReads opening_order old new (λ files. OfMonth files (λ problem. IsRefused problem most why))
-IsOpenHanded old new most nodes (Err (stop.Budget spent)) =
-    FromReads opening_order old new (λ files. OfMonth files (λ problem. IsSpent problem most nodes spent))
+IsOpenHanded old new most nodes (Err (stop.Budget ledger)) =
+    FromReads opening_order old new (λ files. OfMonth files (λ problem. IsSpent problem most nodes ledger))
 IsOpenHanded old new most nodes (Err (stop.Unwritten f u)) =
     FromReads opening_order old new (λ files. IsUnwritten files most nodes f u)
 IsOpenHanded old new most nodes (Err stop.NoMemory) = Unit {0}

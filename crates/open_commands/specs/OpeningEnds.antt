@@ -13,7 +13,7 @@ use Rattle.open_commands.specs.declared.open_stop.OpenStop.TheVariants as stop
 
 abbrev pub miss_end : OpenMiss → OpenStop
 miss_end (miss.No why) = stop.No why
-miss_end (miss.Budget nodes) = stop.Budget nodes
+miss_end (miss.Budget ledger) = stop.Budget ledger
 miss_end miss.NoMemory = stop.NoMemory
 
 -- which change of the shelf's counts an end comes with
@@ -22,7 +22,7 @@ OpenCause old new (Ok f) = new ≡ old
 OpenCause old new (Err (stop.Unread why)) = UnreadCause old new why
 OpenCause old new (Err (stop.BadInput why)) = new ≡ old
 OpenCause old new (Err (stop.No why)) = new ≡ old
-OpenCause old new (Err (stop.Budget nodes)) = new ≡ old
+OpenCause old new (Err (stop.Budget ledger)) = new ≡ old
 OpenCause old new (Err (stop.Unwritten f u)) = StopCause (name_of u.file) old new u.why
 OpenCause old new (Err stop.NoMemory) = new ≡ old
 
@@ -32,6 +32,6 @@ open_written (Ok f) = written f.drafts (Ok tt)
 open_written (Err (stop.Unread why)) = nothing_written
 open_written (Err (stop.BadInput why)) = nothing_written
 open_written (Err (stop.No why)) = nothing_written
-open_written (Err (stop.Budget nodes)) = nothing_written
+open_written (Err (stop.Budget ledger)) = nothing_written
 open_written (Err (stop.Unwritten f u)) = written f.drafts (Err u)
 open_written (Err stop.NoMemory) = nothing_written

@@ -4,6 +4,7 @@ ghost use Rattle.open_commands.specs.OpeningEnds.{miss_end};
 ghost use Rattle.open_commands.specs.declared.open_stop.OpenMiss.TheVariants.{NoMemory as NoRoom};
 ghost use Rattle.open_commands.specs.declared.open_stop.OpenStop.TheVariants.{Unread as NotRead, BadInput as Bad};
 
+use branch_log::Ledger;
 use duty_calendar::{List, Memory, Name};
 use month_files::{BadInput, Draft, Unread, Unwritten};
 use open_time::OpenFault;
@@ -34,18 +35,18 @@ pub enum Opening {
 #[derive(Drop, Debug)]
 pub struct OpenFinding {
     pub found: Opening,
-    /// How many nodes were counted.
-    pub nodes: u32,
+    /// The open nodes that were counted.
+    pub ledger: Ledger,
     pub drafts: List<Draft>,
 }
 
 /// Why nothing was found.
-#[derive(Clone, Copy, Debug, PartialEq, Eq)]
+#[derive(Drop, Debug)]
 pub enum OpenMiss {
     /// The vacant lines cannot be added.
     No(OpenFault),
-    /// So many nodes were counted, and were not enough.
-    Budget(u32),
+    /// These nodes were counted, and were not enough.
+    Budget(Ledger),
     /// No memory was left.
     NoMemory,
 }
@@ -67,8 +68,8 @@ pub enum OpenStop {
     BadInput(BadInput),
     /// The vacant lines cannot be added.
     No(OpenFault),
-    /// So many nodes were counted, and were not enough.
-    Budget(u32),
+    /// These nodes were counted, and were not enough.
+    Budget(Ledger),
     /// This was found, and a file was not written.
     Unwritten(OpenFinding, Unwritten),
     /// No memory was left.
@@ -97,7 +98,7 @@ impl From<OpenMiss> for OpenStop {
     fn from(miss: OpenMiss) -> OpenStop {
         match miss {
             OpenMiss::No(why) => OpenStop::No(why),
-            OpenMiss::Budget(nodes) => OpenStop::Budget(nodes),
+            OpenMiss::Budget(ledger) => OpenStop::Budget(ledger),
             OpenMiss::NoMemory => OpenStop::NoMemory,
         }
     }

@@ -115,21 +115,25 @@ fn say(
     ensures end { IsOpenEnd problem.now most nodes result }
 {
     let _ = most;
+    let _ = nodes;
     match opened {
         Opened::Award(count, none, roster, awarded, reasons, ledger) => {
             let said = say_award(alloc, problem, count, none, &roster, &reasons, awarded)?;
             Ok(OpenFinding {
                 found: Opening::Award(count, said.scores, said.rows),
-                nodes: ledger.len(),
+                ledger,
                 drafts: said.drafts,
             })
         }
-        Opened::NoRoster(proof, ledger) => Ok(OpenFinding {
-            found: Opening::NoRoster,
-            nodes: ledger.len(),
-            drafts: none_drafts(alloc, Some(proof))?,
-        }),
-        Opened::Spent(_, _) => Err(OpenMiss::Budget(nodes)),
+        Opened::NoRoster(proof, ledger) => {
+            let drafts = none_drafts(alloc, Some(proof))?;
+            Ok(OpenFinding {
+                found: Opening::NoRoster,
+                ledger,
+                drafts,
+            })
+        }
+        Opened::Spent(_, ledger) => Err(OpenMiss::Budget(ledger)),
     }
 }
 

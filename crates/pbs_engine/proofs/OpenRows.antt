@@ -1,6 +1,7 @@
 -- What an end of `open` says, which way leads to it, and which counts it speaks of.
 use Rattle.std.proofs.Common.{◌≡◌, ℕ, List, Result, Ok, Err, inl, inr, refl}
 use Rattle.std.specs.Prelude.{◌⊎◌}
+use Rattle.branch_log.specs.Book.{Book}
 use Rattle.cert_checker.proofs.Verdicts.{none_complete}
 use Rattle.shelf.specs.Files.{Files}
 use Rattle.shelf.specs.declared.tally.Tally.{Tally}
@@ -30,6 +31,7 @@ use Rattle.answer_texts.specs.OpenTexts.{open_status, opening_status}
 use Rattle.answer_texts.specs.WriteEnds.{write_status}
 use Rattle.answer_texts.specs.declared.status.Status.{Status}
 use Rattle.answer_texts.specs.declared.status.Status.TheVariants as status
+use Rattle.pbs_engine.specs.Ledgers.{SpendsWith}
 use Rattle.pbs_engine.specs.Rows.{IsQuiet, HasRoster, WithVacant}
 use Rattle.pbs_engine.specs.Runs.{RunCause}
 use Rattle.pbs_engine.proofs.AwardRows.{unwritten_caused}
@@ -47,24 +49,20 @@ of_month files P h = record { inputs = h.inputs; read = h.read; problem = h.prob
 bad_month : (files : Files) (fault : InputFault) → opening.HasBadMonth files fault → HasBadMonth files fault
 bad_month files fault h = record { inputs = h.inputs; read = h.read; bad = h.bad }
 
-pub spent_whole : (problem : Problem) (most nodes spent : ℕ) → IsSpent problem most nodes spent → IsSpent problem most nodes nodes
-spent_whole problem most nodes spent h =
-    record { all = refl; most_fit = h.most_fit; count = h.count; within = h.within; fewer = h.fewer; ledger = h.ledger }
-
 -- what was found says whether the month with the most vacant lines has a complete roster
-filled : (problem : Problem) (most nodes count entries : ℕ) (scores : List ℕ) (rows : List OpenRow) (drafts : List Draft)
-    → FindsOpen problem most nodes count scores rows entries drafts → WithVacant most HasRoster problem
-filled problem most nodes count entries scores rows drafts h =
+filled : (problem : Problem) (most nodes count : ℕ) (scores : List ℕ) (rows : List OpenRow) (ledger : Book) (drafts : List Draft)
+    → FindsOpen problem most nodes count scores rows ledger drafts → WithVacant most HasRoster problem
+filled problem most nodes count scores rows ledger drafts h =
     let last = filled_up_to problem most count h.most_fit h.within h.needs.filled in
     record { room = h.most_fit; made = last.0; of = last.1; found = last.2 }
 
-unfilled : (problem : Problem) (most nodes entries : ℕ) (drafts : List Draft) → FindsNone problem most nodes entries drafts → WithVacant most HasNoRoster problem
-unfilled problem most nodes entries drafts h =
+unfilled : (problem : Problem) (most nodes : ℕ) (ledger : Book) (drafts : List Draft) → FindsNone problem most nodes ledger drafts → WithVacant most HasNoRoster problem
+unfilled problem most nodes ledger drafts h =
     record { room = h.most_fit; made = h.refuted.made; of = h.refuted.of; found = none_complete h.refuted.made h.proof h.refuted.closes }
 
-found_room : (problem : Problem) (most nodes entries : ℕ) (shown : Opening) (drafts : List Draft) → Finds problem most nodes shown entries drafts → HasRoomFor problem most
-found_room problem most nodes entries (kind.Award count scores rows) drafts h = h.most_fit
-found_room problem most nodes entries kind.NoRoster drafts h = h.most_fit
+found_room : (problem : Problem) (most nodes : ℕ) (ledger : Book) (shown : Opening) (drafts : List Draft) → Finds problem most nodes shown ledger drafts → HasRoomFor problem most
+found_room problem most nodes ledger (kind.Award count scores rows) drafts h = h.most_fit
+found_room problem most nodes ledger kind.NoRoster drafts h = h.most_fit
 
 found_answer : (shown : Opening) → IsAnswer (opening_status shown)
 found_answer (kind.Award count scores rows) = tt
@@ -72,15 +70,15 @@ found_answer kind.NoRoster = tt
 
 -- ---- what each end says
 
-found_means : (files : Files) (most nodes entries : ℕ) (shown : Opening) (drafts : List Draft) → OfMonth files (λ problem. Finds problem most nodes shown entries drafts)
+found_means : (files : Files) (most nodes : ℕ) (ledger : Book) (shown : Opening) (drafts : List Draft) → OfMonth files (λ problem. Finds problem most nodes shown ledger drafts)
     → CommandMeans files (command.Open most nodes) (opening_status shown)
-found_means files most nodes entries (kind.Award count scores rows) drafts month =
-    inr (inr (inl (on_month files _ (WithVacant most HasRoster) month (λ problem found. filled problem most nodes count entries scores rows drafts found))))
-found_means files most nodes entries kind.NoRoster drafts month =
-    on_month files _ (WithVacant most HasNoRoster) month (λ problem found. unfilled problem most nodes entries drafts found)
+found_means files most nodes ledger (kind.Award count scores rows) drafts month =
+    inr (inr (inl (on_month files _ (WithVacant most HasRoster) month (λ problem found. filled problem most nodes count scores rows ledger drafts found))))
+found_means files most nodes ledger kind.NoRoster drafts month =
+    on_month files _ (WithVacant most HasNoRoster) month (λ problem found. unfilled problem most nodes ledger drafts found)
 
 pub open_means : (files : Files) (most nodes : ℕ) (end : Result OpenFinding OpenStop) → IsOpen files most nodes end → CommandMeans files (command.Open most nodes) (open_status end)
-open_means files most nodes (Ok f) h = found_means files most nodes f.nodes f.found f.drafts (of_month files _ h)
+open_means files most nodes (Ok f) h = found_means files most nodes f.ledger f.found f.drafts (of_month files _ h)
 open_means files most nodes (Err (stop.Unread (unread.Missing f))) h = (f, h)
 open_means files most nodes (Err (stop.Unread (unread.ReadFault f))) h = tt
 open_means files most nodes (Err (stop.Unread (unread.TooLong f))) h = (f, h)
@@ -88,8 +86,8 @@ open_means files most nodes (Err (stop.Unread unread.NoMemory)) h = tt
 open_means files most nodes (Err (stop.BadInput (bad.Fault fault))) h = (fault, bad_month files fault h)
 open_means files most nodes (Err (stop.BadInput bad.NoMemory)) h = tt
 open_means files most nodes (Err (stop.No why)) h = (why, of_month files _ h)
-open_means files most nodes (Err (stop.Budget spent)) h =
-    on_month files _ (λ problem. IsSpent problem most nodes nodes) (of_month files _ h) (λ problem found. spent_whole problem most nodes spent found)
+open_means files most nodes (Err (stop.Budget ledger)) h =
+    on_month files _ (λ problem. SpendsWith problem most nodes) (of_month files _ h) (λ problem found. (ledger, found))
 open_means files most nodes (Err (stop.Unwritten f u)) h = unwritten_means files (command.Open most nodes) u.why
 open_means files most nodes (Err stop.NoMemory) h = tt
 
@@ -99,7 +97,7 @@ module _ (files : Files) (most nodes : ℕ) where
   found_path : (f : OpenFinding) (s : Status) → IsFound files most nodes f → IsAnswer s → OpenPath files most s
   found_path f s h answer =
       let month = of_month files _ h in
-      opening_path files most _ s month (found_room month.problem most nodes f.nodes f.found f.drafts month.found) answer
+      opening_path files most _ s month (found_room month.problem most nodes f.ledger f.found f.drafts month.found) answer
 
   unwritten_way : (f : OpenFinding) (why : WriteStop) → IsFound files most nodes f → OpenPath files most (write_status why) ⊎ (write_status why ≡ status.NoMemory)
   unwritten_way f write.Fault h = inl (found_path f status.WriteFault h tt)
@@ -116,7 +114,7 @@ module _ (old new : Tally) (before after : ℕ) where
   open_way files most nodes (Err (stop.BadInput (bad.Fault fault))) quiet h cause = inl (bad_opening_path files most fault (bad_month files fault h))
   open_way files most nodes (Err (stop.BadInput bad.NoMemory)) quiet h cause = inr refl
   open_way files most nodes (Err (stop.No why)) quiet h cause = inl (closed_path files most why (of_month files _ h))
-  open_way files most nodes (Err (stop.Budget spent)) quiet h cause =
+  open_way files most nodes (Err (stop.Budget ledger)) quiet h cause =
       let month = of_month files _ h in
       inl (opening_path files most _ status.Budget month month.found.most_fit tt)
   open_way files most nodes (Err (stop.Unwritten f u)) quiet h cause = unwritten_way files most nodes f u.why h.found
@@ -135,6 +133,6 @@ module _ (old new : Tally) (before after : ℕ) where
   open_caused (Err (stop.BadInput (bad.Fault fault))) cause put = (cause, put)
   open_caused (Err (stop.BadInput bad.NoMemory)) cause put = tt
   open_caused (Err (stop.No why)) cause put = (cause, put)
-  open_caused (Err (stop.Budget spent)) cause put = (cause, put)
+  open_caused (Err (stop.Budget ledger)) cause put = (cause, put)
   open_caused (Err (stop.Unwritten f u)) cause put = unwritten_caused old new before after (name_of u.file) u.why cause
   open_caused (Err stop.NoMemory) cause put = tt

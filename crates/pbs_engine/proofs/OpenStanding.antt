@@ -3,6 +3,7 @@ use Rattle.std.proofs.Common.{◌≡◌, ◌≢◌, ℕ, zero, suc, ◌≤◌, f
 use Rattle.std.specs.FinMap.{insert}
 use Rattle.std.specs.Option.{ForSome}
 use Rattle.std.specs.Str.{bytes_eq}
+use Rattle.branch_log.specs.Book.{Book}
 use Rattle.cert_checker.proofs.Verdicts.{none_complete}
 use Rattle.cert_text.specs.Spelling.{written_text}
 use Rattle.shelf.specs.Files.{Files, file}
@@ -47,6 +48,7 @@ use Rattle.answer_texts.specs.OpenTexts.{open_lines, open_status, open_text, ope
 use Rattle.answer_texts.specs.WriteEnds.{write_status}
 use Rattle.answer_texts.specs.declared.status.Status.{Status}
 use Rattle.pbs_engine.specs.AwardHeadline.{Tells}
+use Rattle.pbs_engine.specs.Ledgers.{SpendsWith}
 use Rattle.pbs_engine.specs.OpenHeadline.{BelowIsWritten, HasOpenedMonth, HasUnopenable, IsOpenedMonth, IsUnopenable, OpenIsWritten, Opens, OpensRead, OthersAreKept, UnopenableIsWritten}
 use Rattle.pbs_engine.specs.Outcomes.{status_of, text_of, written_by, IsRight, IsHandedIn}
 use Rattle.pbs_engine.specs.Runs.{Shelved, Sunk, ComesTo, Says}
@@ -55,7 +57,7 @@ use Rattle.pbs_engine.specs.declared.outcome.Outcome.TheVariants as outcome
 use Rattle.pbs_engine.proofs.Answering.{of_open, said_by, on_reads, file_given}
 use Rattle.pbs_engine.proofs.AwardStanding.{all_alike, other_file, texts_are, unequal}
 use Rattle.pbs_engine.proofs.OpenFilled.{unfilled_up_to}
-use Rattle.pbs_engine.proofs.OpenRows.{of_month, spent_whole}
+use Rattle.pbs_engine.proofs.OpenRows.{of_month}
 use Rattle.pbs_engine.proofs.WhatIfStanding.{award_of, budget_put}
 
 -- ---- files after the writes
@@ -182,9 +184,9 @@ text_read files f bytes there fits = ap (within f) there ∙ within_limit f byte
 
 -- ---- an award that was found
 
-module _ (problem : Problem) (most nodes count entries : ℕ) (scores : List ℕ) (rows : List OpenRow) (drafts : List Draft)
-    (found : FindsOpen problem most nodes count scores rows entries drafts) where
-  opened_month : IsOpenedMonth problem found.says.made most nodes count entries scores rows found.below found.roster found.reasons found.awarded
+module _ (problem : Problem) (most nodes count : ℕ) (scores : List ℕ) (rows : List OpenRow) (ledger : Book) (drafts : List Draft)
+    (found : FindsOpen problem most nodes count scores rows ledger drafts) where
+  opened_month : IsOpenedMonth problem found.says.made most nodes count (length ledger.entries) scores rows found.below found.roster found.reasons found.awarded
   opened_month =
       let made = found.says.made in
       let accepted = accepted_of problem count found.below found.roster found.reasons found.awarded made found.award found.says.of in
@@ -196,12 +198,12 @@ module _ (problem : Problem) (most nodes count entries : ℕ) (scores : List ℕ
         fewest = found.fewest;
         award = award_of made found.roster scores accepted.best.complete found.says.greatest found.says.scores_are;
         rows_are = found.says.rows_are;
-        ledger = found.ledger;
+        ledger = record { book = ledger; run = found.run; counted = refl };
         room = found.room;
         splits = found.splits;
       }
 
-  has_opened : HasOpenedMonth most nodes count entries scores rows problem
+  has_opened : HasOpenedMonth most nodes count (length ledger.entries) scores rows problem
   has_opened = record {
     made = found.says.made;
     below = found.below;
@@ -259,7 +261,7 @@ module _ (problem : Problem) (most nodes count entries : ℕ) (scores : List ℕ
       scores_are = found.says.scores_are;
     }
 
-    open_is_written : OpenIsWritten old written most nodes count entries scores rows problem
+    open_is_written : OpenIsWritten old written most nodes count (length ledger.entries) scores rows problem
     open_is_written = record {
       made = made;
       below = found.below;
@@ -278,10 +280,10 @@ module _ (problem : Problem) (most nodes count entries : ℕ) (scores : List ℕ
       roster_fits = found.says.roster_readable.fits;
     }
 
-pub open_left : (old : Files) (new : Option Files) (most nodes count entries : ℕ) (scores : List ℕ) (rows : List OpenRow) (drafts : List Draft)
-    → OfMonth old (λ problem. FindsOpen problem most nodes count scores rows entries drafts) → Leaves (Some old) new (written_files drafts (Ok tt))
-    → Tells new (λ files. OfMonth old (OpenIsWritten old files most nodes count entries scores rows))
-open_left old new most nodes count entries scores rows drafts month left =
+pub open_left : (old : Files) (new : Option Files) (most nodes count : ℕ) (scores : List ℕ) (rows : List OpenRow) (ledger : Book) (drafts : List Draft)
+    → OfMonth old (λ problem. FindsOpen problem most nodes count scores rows ledger drafts) → Leaves (Some old) new (written_files drafts (Ok tt))
+    → Tells new (λ files. OfMonth old (OpenIsWritten old files most nodes count (length ledger.entries) scores rows))
+open_left old new most nodes count scores rows ledger drafts month left =
     let found = month.found in
     record {
       files = whole old found.below found.says.made found.awarded found.reasons found.roster;
@@ -293,26 +295,26 @@ open_left old new most nodes count entries scores rows drafts month left =
         read = month.read;
         problem = month.problem;
         names = month.names;
-        found = open_is_written month.problem most nodes count entries scores rows drafts found old month.inputs month.read month.names;
+        found = open_is_written month.problem most nodes count scores rows ledger drafts found old month.inputs month.read month.names;
       };
     }
 
 -- ---- that the most are not enough
 
-unopenable : (problem : Problem) (most nodes entries : ℕ) (drafts : List Draft) → (found : FindsNone problem most nodes entries drafts)
-    → IsUnopenable problem found.refuted.made most nodes entries found.proof
-unopenable problem most nodes entries drafts found = record {
+unopenable : (problem : Problem) (most nodes : ℕ) (ledger : Book) (drafts : List Draft) → (found : FindsNone problem most nodes ledger drafts)
+    → IsUnopenable problem found.refuted.made most nodes (length ledger.entries) found.proof
+unopenable problem most nodes ledger drafts found = record {
   of = found.refuted.of;
   closes = found.refuted.closes;
   none = unfilled_up_to problem found.refuted.made most found.most_fit found.refuted.of (none_complete found.refuted.made found.proof found.refuted.closes);
-  ledger = found.ledger;
+  ledger = record { book = ledger; run = found.run; counted = refl };
   room = found.room;
   splits = found.splits;
 }
 
-pub none_left : (old : Files) (new : Option Files) (most nodes entries : ℕ) (drafts : List Draft) → OfMonth old (λ problem. FindsNone problem most nodes entries drafts)
-    → Leaves (Some old) new (written_files drafts (Ok tt)) → Tells new (λ files. OfMonth old (UnopenableIsWritten old files most nodes entries))
-none_left old new most nodes entries drafts month left =
+pub none_left : (old : Files) (new : Option Files) (most nodes : ℕ) (ledger : Book) (drafts : List Draft) → OfMonth old (λ problem. FindsNone problem most nodes ledger drafts)
+    → Leaves (Some old) new (written_files drafts (Ok tt)) → Tells new (λ files. OfMonth old (UnopenableIsWritten old files most nodes (length ledger.entries)))
+none_left old new most nodes ledger drafts month left =
     let found = month.found in
     record {
       files = insert old (name_of OpenNone) (none_bytes found.proof);
@@ -325,7 +327,7 @@ none_left old new most nodes entries drafts month left =
         found = record {
           made = found.refuted.made;
           proof = found.proof;
-          found = unopenable month.problem most nodes entries drafts found;
+          found = unopenable month.problem most nodes ledger drafts found;
           proof_file = file_given old (name_of OpenNone) (none_bytes found.proof);
           others = λ name apart. other_file old (name_of OpenNone) (none_bytes found.proof) name apart;
           proof_fits = found.readable.fits;
@@ -333,21 +335,25 @@ none_left old new most nodes entries drafts month left =
       };
     }
 
+-- a ledger that is full has as many entries as there are nodes
+all_spent : (problem : Problem) (most nodes : ℕ) (ledger : Book) → IsSpent problem most nodes ledger → length ledger.entries ≡ nodes
+all_spent problem most nodes ledger h = h.full ∙ h.run.run.cap
+
 -- ---- a run of `open`
 
-finding_opens : (old : Files) (new : Option Files) (most nodes entries : ℕ) (shown : Opening) (drafts : List Draft)
-    → OfMonth old (λ problem. Finds problem most nodes shown entries drafts) → Leaves (Some old) new (written_files drafts (Ok tt))
-    → (before after : Option (List ℕ)) → after ≡ with_piece before (open_lines shown entries) → Opens old new most nodes before after (opening_status shown)
-finding_opens old new most nodes entries (kind.Award count scores rows) drafts month left before after put = record {
+finding_opens : (old : Files) (new : Option Files) (most nodes : ℕ) (ledger : Book) (shown : Opening) (drafts : List Draft)
+    → OfMonth old (λ problem. Finds problem most nodes shown ledger drafts) → Leaves (Some old) new (written_files drafts (Ok tt))
+    → (before after : Option (List ℕ)) → after ≡ with_piece before (open_lines shown (length ledger.entries)) → Opens old new most nodes before after (opening_status shown)
+finding_opens old new most nodes ledger (kind.Award count scores rows) drafts month left before after put = record {
   count = count;
-  entries = entries;
+  entries = length ledger.entries;
   scores = scores;
   rows = rows;
-  files = open_left old new most nodes count entries scores rows drafts month left;
+  files = open_left old new most nodes count scores rows ledger drafts month left;
   put = put;
 }
-finding_opens old new most nodes entries kind.NoRoster drafts month left before after put =
-    record { entries = entries; files = none_left old new most nodes entries drafts month left; put = put }
+finding_opens old new most nodes ledger kind.NoRoster drafts month left before after put =
+    record { entries = length ledger.entries; files = none_left old new most nodes ledger drafts month left; put = put }
 
 unwritten_opens : (old : Files) (new : Option Files) (most nodes : ℕ) (why : WriteStop) (before after : Option (List ℕ))
     → Opens old new most nodes before after (write_status why)
@@ -356,7 +362,7 @@ unwritten_opens old new most nodes write.NoMemory before after = tt
 
 end_opens : (old : Files) (new : Option Files) (most nodes : ℕ) (end : Result OpenFinding OpenStop) → IsOpen old most nodes end → Leaves (Some old) new (open_written end)
     → (before after : Option (List ℕ)) → after ≡ with_piece before (open_text end) → Opens old new most nodes before after (open_status end)
-end_opens old new most nodes (Ok f) right left before after put = finding_opens old new most nodes f.nodes f.found f.drafts (of_month old _ right) left before after put
+end_opens old new most nodes (Ok f) right left before after put = finding_opens old new most nodes f.ledger f.found f.drafts (of_month old _ right) left before after put
 end_opens old new most nodes (Err (stop.Unread (unread.Missing f))) right left before after put = left
 end_opens old new most nodes (Err (stop.Unread (unread.ReadFault f))) right left before after put = left
 end_opens old new most nodes (Err (stop.Unread (unread.TooLong f))) right left before after put = left
@@ -364,34 +370,34 @@ end_opens old new most nodes (Err (stop.Unread unread.NoMemory)) right left befo
 end_opens old new most nodes (Err (stop.BadInput (bad.Fault fault))) right left before after put = left
 end_opens old new most nodes (Err (stop.BadInput bad.NoMemory)) right left before after put = tt
 end_opens old new most nodes (Err (stop.No why)) right left before after put = record { why = why; closed = of_month old _ right; same = left; put = put }
-end_opens old new most nodes (Err (stop.Budget spent)) right left before after put = record {
-  month = on_month old _ (λ problem. IsSpent problem most nodes nodes) (of_month old _ right) (λ problem found. spent_whole problem most nodes spent found);
+end_opens old new most nodes (Err (stop.Budget ledger)) right left before after put = record {
+  month = on_month old _ (λ problem. SpendsWith problem most nodes) (of_month old _ right) (λ problem found. (ledger, found));
   same = left;
-  put = budget_put nodes spent before after right.found.all put;
+  put = budget_put nodes (length ledger.entries) before after (all_spent right.problem most nodes ledger right.found) put;
 }
 end_opens old new most nodes (Err (stop.Unwritten f u)) right left before after put = unwritten_opens old new most nodes u.why before after
 end_opens old new most nodes (Err stop.NoMemory) right left before after put = tt
 
 -- ---- of the texts that reads handed in
 
-finding_read : (old new : Entries) (most nodes entries : ℕ) (shown : Opening) (drafts : List Draft)
-    → FromReads opening_order old new (λ files. OfMonth files (λ problem. Finds problem most nodes shown entries drafts))
-    → (before after : Option (List ℕ)) → after ≡ with_piece before (open_lines shown entries) → OpensRead old new most nodes before after (opening_status shown)
-finding_read old new most nodes entries (kind.Award count scores rows) drafts read before after put = record {
+finding_read : (old new : Entries) (most nodes : ℕ) (ledger : Book) (shown : Opening) (drafts : List Draft)
+    → FromReads opening_order old new (λ files. OfMonth files (λ problem. Finds problem most nodes shown ledger drafts))
+    → (before after : Option (List ℕ)) → after ≡ with_piece before (open_lines shown (length ledger.entries)) → OpensRead old new most nodes before after (opening_status shown)
+finding_read old new most nodes ledger (kind.Award count scores rows) drafts read before after put = record {
   count = count;
-  entries = entries;
+  entries = length ledger.entries;
   scores = scores;
   rows = rows;
   month = on_reads opening_order old new _ _ read
-      (λ files month. on_month files _ (HasOpenedMonth most nodes count entries scores rows) month
-      (λ problem found. has_opened problem most nodes count entries scores rows drafts found));
+      (λ files month. on_month files _ (HasOpenedMonth most nodes count (length ledger.entries) scores rows) month
+      (λ problem found. has_opened problem most nodes count scores rows ledger drafts found));
   put = put;
 }
-finding_read old new most nodes entries kind.NoRoster drafts read before after put = record {
-  entries = entries;
+finding_read old new most nodes ledger kind.NoRoster drafts read before after put = record {
+  entries = length ledger.entries;
   month = on_reads opening_order old new _ _ read
-      (λ files month. on_month files _ (HasUnopenable most nodes entries) month
-      (λ problem found. (found.refuted.made, found.proof, unopenable problem most nodes entries drafts found)));
+      (λ files month. on_month files _ (HasUnopenable most nodes (length ledger.entries)) month
+      (λ problem found. (found.refuted.made, found.proof, unopenable problem most nodes ledger drafts found)));
   put = put;
 }
 
@@ -402,7 +408,7 @@ unwritten_read old new most nodes write.NoMemory before after = tt
 end_read : (old new : Entries) (most nodes : ℕ) (end : Result OpenFinding OpenStop) → IsOpenHanded old new most nodes end → (before after : Option (List ℕ))
     → after ≡ with_piece before (open_text end) → OpensRead old new most nodes before after (open_status end)
 end_read old new most nodes (Ok f) read before after put =
-    finding_read old new most nodes f.nodes f.found f.drafts (on_reads opening_order old new _ _ read (λ files h. of_month files _ h)) before after put
+    finding_read old new most nodes f.ledger f.found f.drafts (on_reads opening_order old new _ _ read (λ files h. of_month files _ h)) before after put
 end_read old new most nodes (Err (stop.Unread (unread.Missing f))) read before after put = tt
 end_read old new most nodes (Err (stop.Unread (unread.ReadFault f))) read before after put = tt
 end_read old new most nodes (Err (stop.Unread (unread.TooLong f))) read before after put = tt
@@ -411,10 +417,10 @@ end_read old new most nodes (Err (stop.BadInput (bad.Fault fault))) read before 
 end_read old new most nodes (Err (stop.BadInput bad.NoMemory)) read before after put = tt
 end_read old new most nodes (Err (stop.No why)) read before after put =
     record { why = why; closed = on_reads opening_order old new _ _ read (λ files h. of_month files _ h); put = put }
-end_read old new most nodes (Err (stop.Budget spent)) read before after put = record {
+end_read old new most nodes (Err (stop.Budget ledger)) read before after put = record {
   month = on_reads opening_order old new _ _ read
-      (λ files h. on_month files _ (λ problem. IsSpent problem most nodes nodes) (of_month files _ h) (λ problem found. spent_whole problem most nodes spent found));
-  put = budget_put nodes spent before after read.found.found.all put;
+      (λ files h. on_month files _ (λ problem. SpendsWith problem most nodes) (of_month files _ h) (λ problem found. (ledger, found)));
+  put = budget_put nodes (length ledger.entries) before after (all_spent read.found.problem most nodes ledger read.found.found) put;
 }
 end_read old new most nodes (Err (stop.Unwritten f u)) read before after put = unwritten_read old new most nodes u.why before after
 end_read old new most nodes (Err stop.NoMemory) read before after put = tt

@@ -1,6 +1,7 @@
 -- What an end of `whatif` says, which way leads to it, and which counts it speaks of.
 use Rattle.std.proofs.Common.{◌≡◌, ℕ, List, Result, Ok, Err, inl, inr, refl}
 use Rattle.std.specs.Prelude.{◌⊎◌}
+use Rattle.branch_log.specs.Book.{Book}
 use Rattle.shelf.specs.Files.{Files}
 use Rattle.shelf.specs.declared.tally.Tally.{Tally}
 use Rattle.command_words.specs.declared.command.Command.TheVariants as command
@@ -19,7 +20,7 @@ use Rattle.whatif_commands.specs.declared.asking_stop.WhatIfStop.TheVariants as 
 use Rattle.answer_texts.specs.WhatIfTexts.{whatif_status}
 use Rattle.answer_texts.specs.WriteEnds.{write_status}
 use Rattle.answer_texts.specs.declared.status.Status.TheVariants as status
-use Rattle.pbs_engine.specs.Rows.{IsQuiet, HasAgain, MayAsk}
+use Rattle.pbs_engine.specs.Rows.{IsQuiet, HasAgain, HasSpent, MayAsk}
 use Rattle.pbs_engine.specs.Runs.{RunCause}
 use Rattle.pbs_engine.proofs.AwardRows.{unwritten_caused}
 use Rattle.pbs_engine.proofs.Meaning.{CommandMeans}
@@ -30,9 +31,6 @@ use Rattle.pbs_engine.proofs.WhatIfWays.{WhatIfPath, asked_path, unasked_path, b
 on_claim : (files : Files) (name : List ℕ) (P Q : Question → Claimed → Type 0) → OfClaim files name P → ((q : Question) (claimed : Claimed) → P q claimed → Q q claimed)
     → OfClaim files name Q
 on_claim files name P Q h f = record { q = h.q; before = h.before; claimed = h.claimed; there = h.there; found = f h.q h.claimed h.found }
-
-spent_again : (nodes spent : ℕ) (q : Question) (claimed : Claimed) → IsSpent nodes spent q claimed → IsSpent nodes nodes q claimed
-spent_again nodes spent q claimed h = record { kept = h.kept; before = h.before; spends = record { all = refl; ledger = h.spends.ledger } }
 
 pub whatif_means : (files : Files) (name : List ℕ) (nodes : ℕ) (end : Result WhatIf WhatIfStop) → IsRun files name nodes end
     → CommandMeans files (command.WhatIf name nodes) (whatif_status end)
@@ -45,7 +43,7 @@ whatif_means files name nodes (Err (stop.BadInput (bad.Fault fault))) h = (fault
 whatif_means files name nodes (Err (stop.BadInput bad.NoMemory)) h = tt
 whatif_means files name nodes (Err (stop.BadBids fault)) h = (input.Bids fault, inr (fault, refl, h))
 whatif_means files name nodes (Err (stop.No why)) h = (why, h)
-whatif_means files name nodes (Err (stop.Budget spent)) h = on_claim files name (IsSpent nodes spent) (IsSpent nodes nodes) h (spent_again nodes spent)
+whatif_means files name nodes (Err (stop.Budget ledger)) h = on_claim files name (IsSpent nodes ledger) (HasSpent nodes) h (λ q claimed found. (ledger, found))
 whatif_means files name nodes (Err (stop.Unwritten w u)) h = unwritten_means files (command.WhatIf name nodes) u.why
 whatif_means files name nodes (Err stop.NoMemory) h = tt
 
@@ -53,8 +51,8 @@ whatif_means files name nodes (Err stop.NoMemory) h = tt
 may_answered : (files : Files) (name : List ℕ) (nodes : ℕ) (w : WhatIf) → OfClaim files name (IsAnswered nodes w) → OfClaim files name (MayAsk nodes)
 may_answered files name nodes w h = on_claim files name (IsAnswered nodes w) (MayAsk nodes) h (λ q claimed found. (found.kept, found.before))
 
-may_spend : (files : Files) (name : List ℕ) (nodes spent : ℕ) → OfClaim files name (IsSpent nodes spent) → OfClaim files name (MayAsk nodes)
-may_spend files name nodes spent h = on_claim files name (IsSpent nodes spent) (MayAsk nodes) h (λ q claimed found. (found.kept, found.before))
+may_spend : (files : Files) (name : List ℕ) (nodes : ℕ) (ledger : Book) → OfClaim files name (IsSpent nodes ledger) → OfClaim files name (MayAsk nodes)
+may_spend files name nodes ledger h = on_claim files name (IsSpent nodes ledger) (MayAsk nodes) h (λ q claimed found. (found.kept, found.before))
 
 unwritten_way : (files : Files) (name : List ℕ) (nodes : ℕ) (why : WriteStop) → OfClaim files name (MayAsk nodes)
     → WhatIfPath files name (write_status why) ⊎ (write_status why ≡ status.NoMemory)
@@ -73,7 +71,7 @@ module _ (old new : Tally) (before after : ℕ) where
   whatif_way files name nodes (Err (stop.BadInput bad.NoMemory)) quiet h cause = inr refl
   whatif_way files name nodes (Err (stop.BadBids fault)) quiet h cause = inl (bad_asked_path files name (input.Bids fault) (inr (fault, refl, h)))
   whatif_way files name nodes (Err (stop.No why)) quiet h cause = inl (unasked_path files name why h)
-  whatif_way files name nodes (Err (stop.Budget spent)) quiet h cause = inl (asked_path files name status.Budget tt nodes (may_spend files name nodes spent h))
+  whatif_way files name nodes (Err (stop.Budget ledger)) quiet h cause = inl (asked_path files name status.Budget tt nodes (may_spend files name nodes ledger h))
   whatif_way files name nodes (Err (stop.Unwritten w u)) quiet h cause = unwritten_way files name nodes u.why (may_answered files name nodes w h.found)
   whatif_way files name nodes (Err stop.NoMemory) quiet h cause = inr refl
 
@@ -87,6 +85,6 @@ module _ (old new : Tally) (before after : ℕ) where
   whatif_caused (Err (stop.BadInput bad.NoMemory)) cause put = tt
   whatif_caused (Err (stop.BadBids fault)) cause put = (cause, put)
   whatif_caused (Err (stop.No why)) cause put = (cause, put)
-  whatif_caused (Err (stop.Budget spent)) cause put = (cause, put)
+  whatif_caused (Err (stop.Budget ledger)) cause put = (cause, put)
   whatif_caused (Err (stop.Unwritten w u)) cause put = unwritten_caused old new before after (name_of u.file) u.why cause
   whatif_caused (Err stop.NoMemory) cause put = tt

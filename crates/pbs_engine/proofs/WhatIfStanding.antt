@@ -2,6 +2,7 @@
 use Rattle.std.proofs.Common.{◌≡◌, ℕ, List, map, take, length, Option, Some, Result, Ok, Err, refl, sym, ap, subst, ◌∙◌, arith}
 use Rattle.std.proofs.lemmas.List.{length-take-le}
 use Rattle.std.specs.FinMap.{insert}
+use Rattle.branch_log.specs.Book.{Book}
 use Rattle.shelf.specs.Files.{Files, file}
 use Rattle.shelf.specs.Logs.{Entries}
 use Rattle.shelf.specs.Puts.{with_piece}
@@ -18,7 +19,7 @@ use Rattle.month_files.specs.declared.unread.Unread.TheVariants as unread
 use Rattle.month_files.specs.declared.writing.Draft.{Draft}
 use Rattle.month_files.specs.declared.writing.WriteStop.{WriteStop}
 use Rattle.month_files.specs.declared.writing.WriteStop.TheVariants as write
-use Rattle.whatif_commands.specs.Asking.{Asked, asked_in, Claimed, IsAskedIn, OfClaim, MayAnswer, IsSpent, HasWhatIf, IsRun, IsRunHanded, asking_order}
+use Rattle.whatif_commands.specs.Asking.{Asked, asked_in, Claimed, IsAskedIn, OfClaim, MayAnswer, SpendsLater, IsSpent, HasWhatIf, IsRun, IsRunHanded, asking_order}
 use Rattle.whatif_commands.specs.AskingEnds.{whatif_written}
 use Rattle.whatif_commands.specs.declared.question.Question.{Question}
 use Rattle.whatif_commands.specs.declared.asking_stop.WhatIf.{WhatIf}
@@ -91,12 +92,12 @@ award_of problem roster scores complete greatest is = record {
 }
 
 award_again : (files : Files) (name : List ℕ) (nodes : ℕ) (w : WhatIf) (h : HasWhatIf files name nodes w)
-    → IsAwardAgain files name nodes w.nodes w.scores h.q.problem h.q.other h.found.again.roster
+    → IsAwardAgain files name nodes (length w.ledger.entries) w.scores h.q.problem h.q.other h.found.again.roster
 award_again files name nodes w h = record {
   member = h.q.member;
   bids = bids_again files name h.q h.before h.claimed h.found.kept h.found.before;
   award = award_of h.q.other h.found.again.roster w.scores h.found.again.best.complete h.found.again.greatest h.found.again.scores_are;
-  ledger = h.found.again.ledger;
+  ledger = record { book = w.ledger; is = h.found.again.ledger; counted = refl };
   room = h.found.again.room;
 }
 
@@ -110,30 +111,34 @@ of_question files name q before P h = record {
   found = h;
 }
 
-has_again : (files : Files) (name : List ℕ) (nodes : ℕ) (w : WhatIf) → HasWhatIf files name nodes w → OfMonth files (HasAgain files name nodes w.nodes w.scores)
+has_again : (files : Files) (name : List ℕ) (nodes : ℕ) (w : WhatIf) → HasWhatIf files name nodes w → OfMonth files (HasAgain files name nodes (length w.ledger.entries) w.scores)
 has_again files name nodes w h =
-    of_question files name h.q h.before (HasAgain files name nodes w.nodes w.scores) (h.q.other, h.found.again.roster, award_again files name nodes w h)
+    of_question files name h.q h.before (HasAgain files name nodes (length w.ledger.entries) w.scores) (h.q.other, h.found.again.roster, award_again files name nodes w h)
 
-spends_again : (files : Files) (name : List ℕ) (nodes spent : ℕ) → OfClaim files name (IsSpent nodes spent) → OfMonth files (SpendsAgain files name nodes)
-spends_again files name nodes spent h =
+-- a ledger that is full has as many entries as there are nodes
+all_spent : (q : Question) (nodes : ℕ) (ledger : Book) → SpendsLater q nodes ledger → length ledger.entries ≡ nodes
+all_spent q nodes ledger h = h.full ∙ h.is.is.cap
+
+spends_again : (files : Files) (name : List ℕ) (nodes : ℕ) (ledger : Book) → OfClaim files name (IsSpent nodes ledger) → OfMonth files (SpendsAgain files name nodes)
+spends_again files name nodes ledger h =
     of_question files name h.q h.before (SpendsAgain files name nodes)
     (record {
       other = h.q.other;
       member = h.q.member;
       bids = bids_again files name h.q h.before h.claimed h.found.kept h.found.before;
-      ledger = h.found.spends.ledger;
+      ledger = record { book = ledger; is = h.found.spends.is; counted = sym (all_spent h.q nodes ledger h.found.spends) };
     })
 
 -- ---- the roster that is written
 
 again_left : (old : Files) (new : Option Files) (name : List ℕ) (nodes : ℕ) (w : WhatIf) → HasWhatIf old name nodes w → Leaves (Some old) new (written w.drafts (Ok tt))
-    → Tells new (λ files. OfMonth old (AgainIsWritten old files name nodes w.nodes w.scores))
+    → Tells new (λ files. OfMonth old (AgainIsWritten old files name nodes (length w.ledger.entries) w.scores))
 again_left old new name nodes w h left =
     let bytes : List ℕ = roster_text h.q.other h.found.again.roster in
     record {
       files = insert old (name_of OtherRoster) bytes;
       told = left ∙ ap (λ (ds : List Draft). with_files (Some old) (map named_bytes ds)) h.found.again.drafts_are;
-      found = of_question old name h.q h.before (AgainIsWritten old (insert old (name_of OtherRoster) bytes) name nodes w.nodes w.scores)
+      found = of_question old name h.q h.before (AgainIsWritten old (insert old (name_of OtherRoster) bytes) name nodes (length w.ledger.entries) w.scores)
           (record {
             other = h.q.other;
             roster = h.found.again.roster;
@@ -156,7 +161,7 @@ budget_put nodes spent before after same put = put ∙ ap (λ (n : ℕ). with_pi
 end_whatifs : (old : Files) (new : Option Files) (name : List ℕ) (nodes : ℕ) (end : Result WhatIf WhatIfStop) → IsRun old name nodes end → Leaves (Some old) new (whatif_written end)
     → (before after : Option (List ℕ)) → after ≡ with_piece before (whatif_text name end) → WhatIfs old new name nodes before after (whatif_status end)
 end_whatifs old new name nodes (Ok w) right left before after put =
-    record { scores = w.scores; entries = w.nodes; files = again_left old new name nodes w right left; put = put }
+    record { scores = w.scores; entries = length w.ledger.entries; files = again_left old new name nodes w right left; put = put }
 end_whatifs old new name nodes (Err (stop.Unread (unread.Missing f))) right left before after put = left
 end_whatifs old new name nodes (Err (stop.Unread (unread.ReadFault f))) right left before after put = left
 end_whatifs old new name nodes (Err (stop.Unread (unread.TooLong f))) right left before after put = left
@@ -165,8 +170,8 @@ end_whatifs old new name nodes (Err (stop.BadInput (bad.Fault fault))) right lef
 end_whatifs old new name nodes (Err (stop.BadInput bad.NoMemory)) right left before after put = tt
 end_whatifs old new name nodes (Err (stop.BadBids fault)) right left before after put = left
 end_whatifs old new name nodes (Err (stop.No why)) right left before after put = record { why = why; unasked = right; same = left; put = put }
-end_whatifs old new name nodes (Err (stop.Budget spent)) right left before after put =
-    record { month = spends_again old name nodes spent right; same = left; put = budget_put nodes spent before after right.found.spends.all put }
+end_whatifs old new name nodes (Err (stop.Budget ledger)) right left before after put =
+    record { month = spends_again old name nodes ledger right; same = left; put = budget_put nodes (length ledger.entries) before after (all_spent right.q nodes ledger right.found.spends) put }
 end_whatifs old new name nodes (Err (stop.Unwritten w u)) right left before after put = unwritten_whatifs old new name nodes u.why before after
 end_whatifs old new name nodes (Err stop.NoMemory) right left before after put = tt
 
@@ -178,7 +183,7 @@ end_read : (old new : Entries) (name : List ℕ) (nodes : ℕ) (end : Result Wha
     → after ≡ with_piece before (whatif_text name end) → WhatIfsRead old new name nodes before after (whatif_status end)
 end_read old new name nodes (Ok w) read before after put = record {
   scores = w.scores;
-  entries = w.nodes;
+  entries = length w.ledger.entries;
   found = on_reads asking_order old new _ _ read (λ files h. has_again files name nodes w h);
   put = put;
 }
@@ -190,9 +195,9 @@ end_read old new name nodes (Err (stop.BadInput (bad.Fault fault))) read before 
 end_read old new name nodes (Err (stop.BadInput bad.NoMemory)) read before after put = tt
 end_read old new name nodes (Err (stop.BadBids fault)) read before after put = tt
 end_read old new name nodes (Err (stop.No why)) read before after put = record { why = why; unasked = read; put = put }
-end_read old new name nodes (Err (stop.Budget spent)) read before after put = record {
-  month = on_reads asking_order old new _ _ read (λ files h. spends_again files name nodes spent h);
-  put = budget_put nodes spent before after read.found.found.spends.all put;
+end_read old new name nodes (Err (stop.Budget ledger)) read before after put = record {
+  month = on_reads asking_order old new _ _ read (λ files h. spends_again files name nodes ledger h);
+  put = budget_put nodes (length ledger.entries) before after (all_spent read.found.q nodes ledger read.found.found.spends) put;
 }
 end_read old new name nodes (Err (stop.Unwritten w u)) read before after put = unwritten_read old new name nodes u.why before after
 end_read old new name nodes (Err stop.NoMemory) read before after put = tt

@@ -13,7 +13,7 @@ use Rattle.open_time.specs.declared.fault.OpenFault.{OpenFault}
 use Rattle.open_time.specs.Refuted.{IsOpenAward}
 use Rattle.open_time.specs.Vacant.{IsWithVacant, IsUnfilledUnder, IsUnfilledWith, NeedsVacant}
 use Rattle.open_commands.specs.OpenRows.{AreOpenRows}
-use Rattle.open_commands.specs.Opening.{HasLedgerWith, IsSpent, opening_order}
+use Rattle.open_commands.specs.Opening.{opening_order}
 use Rattle.open_commands.specs.declared.open_stop.OpenRow.{OpenRow}
 use Rattle.open_commands.specs.declared.open_stop.Opening.TheVariants.{Award, NoRoster}
 use Rattle.roster_model.specs.declared.award.Awarded.{Awarded}
@@ -31,6 +31,7 @@ use Rattle.answer_texts.specs.Lines.{line_of}
 use Rattle.answer_texts.specs.declared.status.Status.{Status}
 use Rattle.answer_texts.specs.declared.status.Status.TheVariants as status
 use Rattle.pbs_engine.specs.AwardHeadline.{IsAwardOf, Tells, budget_line}
+use Rattle.pbs_engine.specs.Ledgers.{HasLedgerWith, SpendsWith}
 use Rattle.pbs_engine.specs.Rows.{HasClosed, HasShown}
 
 -- ---- what is found
@@ -130,7 +131,7 @@ pub record EndsClosed (old : Files) (new : Option Files) (most : ℕ) (before af
 
 -- for one of the numbers up to the most, one less is not enough, and a lawful ledger has as many entries as were allowed
 pub record EndsSpent (old : Files) (new : Option Files) (most nodes : ℕ) (before after : Option (List ℕ)) : Type 0 where
-  pub month : OfMonth old (λ problem. IsSpent problem most nodes nodes)
+  pub month : OfMonth old (λ problem. SpendsWith problem most nodes)
   pub same : new ≡ Some old
   pub put : after ≡ with_piece before (budget_line nodes)
 
@@ -182,7 +183,7 @@ pub record ReadsClosed (old new : Entries) (most : ℕ) (before after : Option (
   pub put : after ≡ with_piece before (closed_line why)
 
 pub record ReadsSpent (old new : Entries) (most nodes : ℕ) (before after : Option (List ℕ)) : Type 0 where
-  pub month : FromReads opening_order old new (λ files. OfMonth files (λ problem. IsSpent problem most nodes nodes))
+  pub month : FromReads opening_order old new (λ files. OfMonth files (λ problem. SpendsWith problem most nodes))
   pub put : after ≡ with_piece before (budget_line nodes)
 
 abbrev pub OpensRead : Entries → Entries → ℕ → ℕ → Option (List ℕ) → Option (List ℕ) → Status → Type 0

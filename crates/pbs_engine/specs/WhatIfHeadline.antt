@@ -9,7 +9,7 @@ use Rattle.month_commands.specs.Award.{OfMonth}
 use Rattle.month_files.specs.FileNames.{name_of, limit_of}
 use Rattle.month_files.specs.Handing.{FromReads}
 use Rattle.month_files.specs.declared.file.File.TheVariants.{OtherBids, OtherRoster}
-use Rattle.whatif_commands.specs.Asking.{HasLaterLedger, HasUnasked, asking_order}
+use Rattle.whatif_commands.specs.Asking.{HasUnasked, asking_order}
 use Rattle.whatif_commands.specs.declared.asking_stop.Unasked.{Unasked}
 use Rattle.roster_model.specs.declared.problem.Problem.{Problem}
 use Rattle.roster_text.specs.ReasonWords.{member_named}
@@ -19,6 +19,7 @@ use Rattle.answer_texts.specs.WhatIfTexts.{whatif_lines, unasked_text}
 use Rattle.answer_texts.specs.declared.status.Status.{Status}
 use Rattle.answer_texts.specs.declared.status.Status.TheVariants as status
 use Rattle.pbs_engine.specs.AwardHeadline.{IsAwardOf, Tells, budget_line}
+use Rattle.pbs_engine.specs.Ledgers.{HasLaterLedger}
 
 -- the file of the other bids is the text of bids that make the other problem of the same base; a member has the name, and
 -- all other members bid as they did
@@ -37,7 +38,7 @@ pub record IsAwardAgain (files : Files) (name : List ℕ) (nodes entries : ℕ) 
   pub member : ℕ
   pub bids : BidsAgain files name problem other member
   pub award : IsAwardOf other roster scores
-  pub ledger : HasLaterLedger other member entries
+  pub ledger : HasLaterLedger other member nodes entries
   pub room : entries < nodes
 
 -- the file of the other roster is now the text of that roster, and each other file is as before
@@ -55,7 +56,7 @@ pub record SpendsAgain (files : Files) (name : List ℕ) (nodes : ℕ) (problem 
   pub other : Problem
   pub member : ℕ
   pub bids : BidsAgain files name problem other member
-  pub ledger : HasLaterLedger other member nodes
+  pub ledger : HasLaterLedger other member nodes nodes
 
 pub record EndsAgain (old : Files) (new : Option Files) (name : List ℕ) (nodes : ℕ) (before after : Option (List ℕ)) : Type 0 where
   pub scores : List ℕ

@@ -128,7 +128,7 @@ module _ (q : Question) (claimed : Claimed) where
   ends_unclaimed nodes (stop.BadInput why) h = h
   ends_unclaimed nodes (stop.BadBids fault) h = h
   ends_unclaimed nodes (stop.No why) h = h
-  ends_unclaimed nodes (stop.Budget spent) h = absurd h
+  ends_unclaimed nodes (stop.Budget ledger) h = absurd h
   ends_unclaimed nodes (stop.Unwritten w u) h = h
   ends_unclaimed nodes stop.NoMemory h = tt
 
@@ -139,7 +139,7 @@ module _ (q : Question) (claimed : Claimed) where
   ends_again kept before nodes (Err (stop.BadInput why)) found miss = miss
   ends_again kept before nodes (Err (stop.BadBids fault)) found miss = miss
   ends_again kept before nodes (Err (stop.No why)) found miss = absurd miss
-  ends_again kept before nodes (Err (stop.Budget spent)) found miss = record { kept = kept; before = before; spends = miss }
+  ends_again kept before nodes (Err (stop.Budget ledger)) found miss = record { kept = kept; before = before; spends = miss }
   ends_again kept before nodes (Err (stop.Unwritten w u)) found miss = miss
   ends_again kept before nodes (Err stop.NoMemory) found miss = tt
 

@@ -43,7 +43,7 @@ module _ (files : Files) (name : List ℕ) (nodes : ℕ) (asked : Asked) (read :
   ends_unasked (stop.BadInput bad.NoMemory) h = tt
   ends_unasked (stop.BadBids fault) h = record { asked = asked; read = read; found = h }
   ends_unasked (stop.No why) h = not_asked why h
-  ends_unasked (stop.Budget spent) h = absurd h
+  ends_unasked (stop.Budget ledger) h = absurd h
   ends_unasked (stop.Unwritten w u) h = absurd h
   ends_unasked stop.NoMemory h = tt
 
@@ -72,7 +72,7 @@ module _ (files : Files) (name : List ℕ) (nodes : ℕ) (q : Question) (before 
     ends_claim (stop.BadInput why) h = absurd h
     ends_claim (stop.BadBids fault) h = absurd h
     ends_claim (stop.No why) h = unanswered why h
-    ends_claim (stop.Budget spent) h = record { q = q; before = before; claimed = claimed; there = there; found = h }
+    ends_claim (stop.Budget ledger) h = record { q = q; before = before; claimed = claimed; there = there; found = h }
     ends_claim (stop.Unwritten w u) h = absurd h
     ends_claim stop.NoMemory h = tt
 
@@ -105,7 +105,7 @@ module _ (old new : Entries) (name : List ℕ) (nodes : ℕ) (asked : Asked) (lo
       from_asked (λ files. OfAsked files (HasOtherFault fault)) (ends_unasked (holding (asked_texts asked)) name nodes asked (asked_held asked [] short brief) (stop.BadBids fault) h)
   handed_unasked (stop.No why) h =
       from_asked (λ files. HasUnasked files name why) (ends_unasked (holding (asked_texts asked)) name nodes asked (asked_held asked [] short brief) (stop.No why) h)
-  handed_unasked (stop.Budget spent) h = absurd h
+  handed_unasked (stop.Budget ledger) h = absurd h
   handed_unasked (stop.Unwritten w u) h = absurd h
   handed_unasked stop.NoMemory h = tt
 
@@ -142,8 +142,8 @@ module _ (old log new : Entries) (name : List ℕ) (nodes : ℕ) (q : Question) 
   handed_claim (stop.BadBids fault) h = absurd h
   handed_claim (stop.No why) h =
       from_all (λ files. HasUnasked files name why) (ends_claim (holding all_texts) name nodes q asked_before claimed claimed_held (stop.No why) h)
-  handed_claim (stop.Budget spent) h =
-      from_all (λ files. OfClaim files name (IsSpent nodes spent)) (ends_claim (holding all_texts) name nodes q asked_before claimed claimed_held (stop.Budget spent) h)
+  handed_claim (stop.Budget ledger) h =
+      from_all (λ files. OfClaim files name (IsSpent nodes ledger)) (ends_claim (holding all_texts) name nodes q asked_before claimed claimed_held (stop.Budget ledger) h)
   handed_claim (stop.Unwritten w u) h = absurd h
   handed_claim stop.NoMemory h = tt
 

@@ -3,12 +3,15 @@ use Rattle.std.specs.Prelude.{◌≡◌, ◌≢◌, ◌<◌, ◌≤◌, [], ◌�
 use Rattle.shelf.specs.Files.{Files}
 use Rattle.shelf.specs.Logs.{Entries}
 use Rattle.bid_language.specs.Lines.{bids_in}
+use Rattle.branch_log.specs.Book.{Book}
 use Rattle.bid_language.specs.declared.fault.BidFault.{BidFault}
 use Rattle.cert_checker.specs.Awards.{IsFirstNo}
 use Rattle.cert_checker.specs.declared.refusal.No.{No}
 use Rattle.cert_checker.specs.declared.refusal.No.TheVariants.{NoMemory as NoRoom}
 use Rattle.cert_text.specs.Reading.{certificate_in}
 use Rattle.cert_text.specs.declared.fault.CertFault.{CertFault}
+use Rattle.completion_search.specs.Found.{IsFull}
+use Rattle.month_award.specs.Months.{IsLedgerOf}
 use Rattle.month_files.specs.FileNames.{limit_of}
 use Rattle.month_files.specs.Handing.{FromReads}
 use Rattle.month_files.specs.Months.{Names, HasFault}
@@ -24,13 +27,10 @@ use Rattle.month_files.specs.declared.writing.Draft.{Draft}
 use Rattle.month_files.specs.declared.writing.Unwritten.{Unwritten}
 use Rattle.roster_model.specs.Awards.{IsBest, IsGreatest}
 use Rattle.roster_model.specs.Denials.{IsAwarded}
-use Rattle.roster_model.specs.Lawful.{IsLawful}
 use Rattle.roster_model.specs.Rosters.{scores_of}
 use Rattle.roster_model.specs.Scores.{bids_of}
 use Rattle.roster_model.specs.declared.award.Certificate.TheVariants.{Award, NoRoster}
 use Rattle.roster_model.specs.declared.award.Denial.{Denial}
-use Rattle.roster_model.specs.declared.entry.Entry.{Entry}
-use Rattle.roster_model.specs.declared.goal.Goal.{Goal}
 use Rattle.roster_model.specs.declared.problem.Problem.{Problem}
 use Rattle.roster_model.specs.declared.proof.Item.{Item}
 use Rattle.roster_text.specs.ReasonFaults.{HasReasonFault}
@@ -137,7 +137,7 @@ IsUnasked name asked (stop.Unread why) = ⊥
 IsUnasked name asked (stop.BadInput why) = IsBadInput why asked
 IsUnasked name asked (stop.BadBids fault) = HasOtherFault fault asked
 IsUnasked name asked (stop.No why) = IsNotAsked name asked why
-IsUnasked name asked (stop.Budget nodes) = ⊥
+IsUnasked name asked (stop.Budget ledger) = ⊥
 IsUnasked name asked (stop.Unwritten w u) = ⊥
 IsUnasked name asked stop.NoMemory = Unit {0}
 
@@ -196,7 +196,7 @@ IsUnclaimed q claimed (stop.Unread why) = ⊥
 IsUnclaimed q claimed (stop.BadInput why) = ⊥
 IsUnclaimed q claimed (stop.BadBids fault) = ⊥
 IsUnclaimed q claimed (stop.No why) = IsUnanswered q claimed why
-IsUnclaimed q claimed (stop.Budget nodes) = ⊥
+IsUnclaimed q claimed (stop.Budget ledger) = ⊥
 IsUnclaimed q claimed (stop.Unwritten w u) = ⊥
 IsUnclaimed q claimed stop.NoMemory = Unit {0}
 
@@ -211,14 +211,10 @@ pub record IsReadableRoster (problem : Problem) (roster : List (List ℕ)) : Typ
   pub form : IsRoster problem roster
   pub fits : length (roster_text problem roster) ≤ limit_of OtherRoster
 
--- a lawful ledger of the problem, by 400 rounds, has so many entries, and each of its searches has a floor for this
--- member
-pub record HasLaterLedger (problem : Problem) (member count : ℕ) : Type 0 where
-  pub goals : List Goal
-  pub entries : List Entry
-  pub lawful : IsLawful problem 400 goals entries
-  pub counted : length entries ≡ count
-  pub behind : AreBehind member goals
+-- a ledger of the problem, of which each search has a floor for this member
+pub record IsLaterLedger (problem : Problem) (member nodes : ℕ) (ledger : Book) : Type 0 where
+  pub is : IsLedgerOf problem nodes ledger
+  pub behind : AreBehind member ledger.goals
 
 -- The greatest roster with the other bids, and a proof for each place: before the member's place those of the award, as
 -- they serve both, and the scores of the award's roster.
@@ -232,20 +228,20 @@ pub record FindsAgain (q : Question) (kept : List (List ℕ)) (nodes : ℕ) (w :
   pub scores_are : w.scores ≡ scores_of q.other roster
   pub drafts_are : w.drafts ≡ again_draft q.other roster ∷ []
   pub readable : IsReadableRoster q.other roster
-  pub ledger : HasLaterLedger q.other q.member w.nodes
-  pub room : w.nodes < nodes
+  pub ledger : IsLaterLedger q.other q.member nodes w.ledger
+  pub room : length w.ledger.entries < nodes
 
--- the budget that was spent is the one that was given, and a ledger has as many entries
-pub record SpendsLater (q : Question) (nodes spent : ℕ) : Type 0 where
-  pub all : spent ≡ nodes
-  pub ledger : HasLaterLedger q.other q.member nodes
+-- such a ledger is full
+pub record SpendsLater (q : Question) (nodes : ℕ) (ledger : Book) : Type 0 where
+  pub is : IsLaterLedger q.other q.member nodes ledger
+  pub full : IsFull ledger
 
 abbrev pub IsMiss : Question → ℕ → WhatIfStop → Type 0
 IsMiss q nodes (stop.Unread why) = ⊥
 IsMiss q nodes (stop.BadInput why) = ⊥
 IsMiss q nodes (stop.BadBids fault) = ⊥
 IsMiss q nodes (stop.No why) = ⊥
-IsMiss q nodes (stop.Budget spent) = SpendsLater q nodes spent
+IsMiss q nodes (stop.Budget ledger) = SpendsLater q nodes ledger
 IsMiss q nodes (stop.Unwritten w u) = ⊥
 IsMiss q nodes stop.NoMemory = Unit {0}
 
@@ -254,16 +250,16 @@ pub record MayAnswer (q : Question) (claimed : Claimed) (roster : List (List ℕ
   pub stands : IsStanding q claimed roster
   pub agree : AgreeBut q.problem q.other q.member
 
--- and this is found, or the budget is spent
+-- and this is found, or the ledger is full
 pub record IsAnswered (nodes : ℕ) (w : WhatIf) (q : Question) (claimed : Claimed) : Type 0 where
   pub kept : List (List ℕ)
   pub before : MayAnswer q claimed kept
   pub again : FindsAgain q kept nodes w
 
-pub record IsSpent (nodes spent : ℕ) (q : Question) (claimed : Claimed) : Type 0 where
+pub record IsSpent (nodes : ℕ) (ledger : Book) (q : Question) (claimed : Claimed) : Type 0 where
   pub kept : List (List ℕ)
   pub before : MayAnswer q claimed kept
-  pub spends : SpendsLater q nodes spent
+  pub spends : SpendsLater q nodes ledger
 
 -- what is answered once all texts are read, but for the writing
 abbrev pub IsClaimEnd : Question → Claimed → ℕ → Result WhatIf WhatIfStop → Type 0
@@ -272,7 +268,7 @@ IsClaimEnd q claimed nodes (Err (stop.Unread why)) = ⊥
 IsClaimEnd q claimed nodes (Err (stop.BadInput why)) = ⊥
 IsClaimEnd q claimed nodes (Err (stop.BadBids fault)) = ⊥
 IsClaimEnd q claimed nodes (Err (stop.No why)) = IsUnanswered q claimed why
-IsClaimEnd q claimed nodes (Err (stop.Budget spent)) = IsSpent nodes spent q claimed
+IsClaimEnd q claimed nodes (Err (stop.Budget ledger)) = IsSpent nodes ledger q claimed
 IsClaimEnd q claimed nodes (Err (stop.Unwritten w u)) = ⊥
 IsClaimEnd q claimed nodes (Err stop.NoMemory) = Unit {0}
 
@@ -343,7 +339,7 @@ IsRun files name nodes (Err (stop.Unread why)) = IsUnread files name why
 IsRun files name nodes (Err (stop.BadInput why)) = IsBadAsked files why
 IsRun files name nodes (Err (stop.BadBids fault)) = OfAsked files (HasOtherFault fault)
 IsRun files name nodes (Err (stop.No why)) = HasUnasked files name why
-IsRun files name nodes (Err (stop.Budget spent)) = OfClaim files name (IsSpent nodes spent)
+IsRun files name nodes (Err (stop.Budget ledger)) = OfClaim files name (IsSpent nodes ledger)
 IsRun files name nodes (Err (stop.Unwritten w u)) = HasUnwritten files name nodes w u
 IsRun files name nodes (Err stop.NoMemory) = Unit {0}
 
@@ -362,8 +358,8 @@ IsRunHanded old new name nodes (Err (stop.BadInput why)) = FromReads asking_orde
 IsRunHanded old new name nodes (Err (stop.BadBids fault)) =
     FromReads asking_order old new (λ files. OfAsked files (HasOtherFault fault))
 IsRunHanded old new name nodes (Err (stop.No why)) = FromReads asking_order old new (λ files. HasUnasked files name why)
-IsRunHanded old new name nodes (Err (stop.Budget spent)) =
-    FromReads asking_order old new (λ files. OfClaim files name (IsSpent nodes spent))
+IsRunHanded old new name nodes (Err (stop.Budget ledger)) =
+    FromReads asking_order old new (λ files. OfClaim files name (IsSpent nodes ledger))
 IsRunHanded old new name nodes (Err (stop.Unwritten w u)) =
     FromReads asking_order old new (λ files. HasUnwritten files name nodes w u)
 IsRunHanded old new name nodes (Err stop.NoMemory) = Unit {0}

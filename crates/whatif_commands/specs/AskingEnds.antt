@@ -84,7 +84,7 @@ AskingCause old new (Err (stop.Unread why)) = UnreadCause old new why
 AskingCause old new (Err (stop.BadInput why)) = new ≡ old
 AskingCause old new (Err (stop.BadBids fault)) = new ≡ old
 AskingCause old new (Err (stop.No why)) = new ≡ old
-AskingCause old new (Err (stop.Budget nodes)) = new ≡ old
+AskingCause old new (Err (stop.Budget ledger)) = new ≡ old
 AskingCause old new (Err (stop.Unwritten w u)) = StopCause (name_of u.file) old new u.why
 AskingCause old new (Err stop.NoMemory) = new ≡ old
 
@@ -95,6 +95,6 @@ whatif_written (Err (stop.Unread why)) = nothing_written
 whatif_written (Err (stop.BadInput why)) = nothing_written
 whatif_written (Err (stop.BadBids fault)) = nothing_written
 whatif_written (Err (stop.No why)) = nothing_written
-whatif_written (Err (stop.Budget nodes)) = nothing_written
+whatif_written (Err (stop.Budget ledger)) = nothing_written
 whatif_written (Err (stop.Unwritten w u)) = written w.drafts (Err u)
 whatif_written (Err stop.NoMemory) = nothing_written

@@ -21,6 +21,13 @@ use what_if::what_if;
 /// How many rounds of lines show that a node is open.
 const ROUNDS: u32 = 400;
 
+/// The scores of a roster with the other bids, and the file to write.
+#[derive(Drop)]
+struct Said {
+    scores: List<u32>,
+    drafts: List<Draft>,
+}
+
 /// The file to write, which is that of the other roster.
 fn again_drafts(alloc: Global, problem: &Problem, roster: &Roster) -> Result<List<Draft>, Memory>
     requires complete { IsComplete problem.now roster.now }
@@ -40,20 +47,15 @@ fn again_drafts(alloc: Global, problem: &Problem, roster: &Roster) -> Result<Lis
 }
 
 /// What is said of an award with the other bids.
-fn said(alloc: Global, problem: &Problem, roster: &Roster, nodes: u32) -> Result<WhatIf, Memory>
+fn say(alloc: Global, problem: &Problem, roster: &Roster) -> Result<Said, Memory>
     requires complete { IsComplete problem.now roster.now }
-    ensures scores { IfOk result (λ w. w.scores ≡ scores_of problem.now roster.now) }
-    ensures nodes { IfOk result (λ w. w.nodes ≡ nodes) }
-    ensures drafts { IfOk result (λ w. w.drafts ≡ again_draft problem.now roster.now ∷ []) }
+    ensures scores { IfOk result (λ s. s.scores ≡ scores_of problem.now roster.now) }
+    ensures drafts { IfOk result (λ s. s.drafts ≡ again_draft problem.now roster.now ∷ []) }
     ensures readable { OnOk result (IsReadableRoster problem.now roster.now) }
 {
     let scores = scores_of(alloc, problem, roster)?;
     let drafts = again_drafts(alloc, problem, roster)?;
-    Ok(WhatIf {
-        scores,
-        nodes,
-        drafts,
-    })
+    Ok(Said { scores, drafts })
 }
 
 /// A closer that has learned from the award, and knows the lines that were noted.
@@ -100,8 +102,15 @@ pub(crate) fn again<C: FreshCloser>(
         &mut closer,
         &mut ledger,
     )? {
-        Outcome::Award(best, _) => Ok(said(alloc, &question.other, &best, ledger.len())?),
+        Outcome::Award(best, _) => {
+            let said = say(alloc, &question.other, &best)?;
+            Ok(WhatIf {
+                scores: said.scores,
+                ledger,
+                drafts: said.drafts,
+            })
+        }
         Outcome::NoRoster(_) => unreachable!(),
-        Outcome::Spent => Err(WhatIfStop::Budget(nodes)),
+        Outcome::Spent => Err(WhatIfStop::Budget(ledger)),
     }
 }

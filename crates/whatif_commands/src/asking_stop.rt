@@ -4,6 +4,7 @@ ghost use Rattle.whatif_commands.specs.AskingEnds.{bids_stop, cert_stop, roster_
 ghost use Rattle.whatif_commands.specs.declared.asking_stop.WhatIfStop.TheVariants.{Unread as NotRead, BadInput as Bad, NoMemory as NoRoom};
 
 use bid_language::{BidCode, BidFault};
+use branch_log::Ledger;
 use cert_checker::No;
 use cert_text::{CertCode, CertFault};
 use duty_calendar::{List, Memory};
@@ -15,8 +16,8 @@ use roster_text::{ReasonTextCode, ReasonTextFault, RosterTextCode, RosterTextFau
 pub struct WhatIf {
     /// The scores of its roster, in order of seniority.
     pub scores: List<u32>,
-    /// How many nodes were counted.
-    pub nodes: u32,
+    /// The open nodes that were counted.
+    pub ledger: Ledger,
     pub drafts: List<Draft>,
 }
 
@@ -50,8 +51,8 @@ pub enum WhatIfStop {
     BadBids(BidFault),
     /// The answer is no.
     No(Unasked),
-    /// So many nodes were counted, and were not enough.
-    Budget(u32),
+    /// These nodes were counted, and were not enough.
+    Budget(Ledger),
     /// This was found, and the file was not written.
     Unwritten(WhatIf, Unwritten),
     /// No memory was left.

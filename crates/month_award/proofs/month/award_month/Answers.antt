@@ -34,8 +34,8 @@ returns-in-NoRoster-clause-outcome g c =
     let before = c.in_ok-ledger.ledger in
     let after = c.award.new.ledger in
     let run = award-run problem c.args.nodes before after made said.adds said.takes c.requires.few_nodes said.lawful in
-    unfillable-month problem c.args.nodes before after made said.adds said.takes c.len.result c.in-NoRoster.proof run
-    (rw c.in-NoRoster.is at c.in_ok-roster.ensures.outcome) (rw c.in-NoRoster.is at c.in_ok-roster.ensures.short) c.len.ensures.len
+    unfillable-month problem c.args.nodes before after made said.adds said.takes c.in-NoRoster.proof run
+    (rw c.in-NoRoster.is at c.in_ok-roster.ensures.outcome) (rw c.in-NoRoster.is at c.in_ok-roster.ensures.short)
 
 pub returns-clause-outcome : goal.returns-clause-outcome
 returns-clause-outcome g c =

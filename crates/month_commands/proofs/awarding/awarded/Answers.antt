@@ -18,7 +18,7 @@ returns c = record {
     seniors = c.requires.seniors;
     scores_are = c.in_ok-scores.ensures.value;
     denied_are = c.len.ensures;
-    counted = refl;
+    ledger_is = refl;
     drafts_are = c.in_ok-add_roster.ensures.drafts ∙ ap (λ (ds : List Draft). ds ++ roster_draft c.args.problem.now c.args.month.now.roster ∷ [])
         (c.in_ok-add_reasons.ensures.drafts ∙ ap (λ (ds : List Draft). ds ++ reasons_draft c.args.problem.now c.args.month.now.reasons ∷ []) c.in_ok-drafts.ensures.drafts);
     certificate = c.in_ok-drafts.ensures.readable;
