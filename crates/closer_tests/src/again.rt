@@ -5,10 +5,10 @@ ghost use Rattle.roster_model.specs.declared.bid.Wish.TheVariants.{DaysOff, Fly}
 ghost use Rattle.roster_model.specs.Valid.{IsBid};
 ghost use Rattle.what_if.specs.Reused.{AgreeBut};
 
-use june_months::{contest, first_pairing, one, pair};
 use award_loop::{Outcome, award, award_from};
 use branch_log::{FreshCloser, Ledger};
 use duty_calendar::{Copied, List, Memory};
+use june_months::{contest, first_pairing, one, pair};
 use plain_guide::PlainGuide;
 use roster_model::{Awarded, Bid, Problem, Roster, Wish};
 use std::alloc::Global;
