@@ -2,7 +2,7 @@
 ghost use Rattle.std.specs.Prelude.{◌≡◌};
 ghost use Rattle.month_files.specs.Reading.{AreShort, view_texts};
 
-use crate::framing::framed;
+use crate::framing::frame_bids;
 use crate::reading::{LONGEST, Read, read_all};
 use crate::receipts::{put_count, put_receipt};
 use crate::standing::standing_of;
@@ -115,7 +115,7 @@ fn take_sent(
     name: &[u8],
     sent: &[u8],
 ) -> Result<(), Memory> {
-    let made = framed(alloc, name, sent)?;
+    let made = frame_bids(alloc, name, sent)?;
     put_all_foreign(prose, name, sent, &made.foreign)?;
     let is_own = made.foreign.is_empty();
     let read = read_all(alloc, problem, made.text)?;
@@ -152,7 +152,7 @@ fn take_standing(
     name: &[u8],
     lines: &[u8],
 ) -> Result<(), Memory> {
-    let made = framed(alloc, name, lines)?;
+    let made = frame_bids(alloc, name, lines)?;
     let read = read_all(alloc, problem, made.text)?;
     put_all_left_out(prose, name, lines, &read)?;
     if !read.is_read {

@@ -39,7 +39,7 @@ impl Framed {
 }
 
 /// What a pilot sent, as a text of bids.
-pub fn framed(alloc: Global, name: &[u8], sent: &[u8]) -> Result<Framed, Memory> {
+pub fn frame_bids(alloc: Global, name: &[u8], sent: &[u8]) -> Result<Framed, Memory> {
     let mut made = Framed {
         text: Vec::new(alloc),
         foreign: Vec::new(alloc),

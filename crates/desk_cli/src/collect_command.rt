@@ -1,5 +1,5 @@
 //! The command `collect`.
-ghost use Rattle.std.specs.Prelude.{◌≡◌, codes, IfOk, true};
+ghost use Rattle.std.specs.Prelude.{◌≡◌, codes};
 ghost use Rattle.shelf.specs.Files.{SameButAt};
 
 use crate::runner::say;
@@ -40,41 +40,72 @@ fn say_unsound(prose: &mut Prose) -> Result<DeskStatus, Memory> {
 
 /// Writes the text of bids, where nothing is wrong with what was sent.
 #[tactic(auto, using(crate::proofs::Kept::same_kept))]
+fn put_text<S: Shelf>(
+    alloc: Global,
+    shelf: &mut S,
+    prose: &mut Prose,
+    collected: &Collected,
+) -> Result<DeskStatus, Memory>
+    ensures others { SameButAt (codes "bids.txt") (S.holds shelf.old) (S.holds shelf.new) }
+{
+    match &collected.text {
+        Some(text) => put_file(alloc, shelf, prose, "bids.txt", text.as_slice()),
+        None => say_unsound(prose),
+    }
+}
+
+/// Writes the text of bids, or says what stands against it.
+#[tactic(auto, using(crate::proofs::Kept::same_kept))]
 fn put_collected<S: Shelf>(
     alloc: Global,
     shelf: &mut S,
     prose: &mut Prose,
-    end: Result<Collected, PageStop>,
+    end: &Result<Collected, PageStop>,
 ) -> Result<DeskStatus, Memory>
     ensures others { SameButAt (codes "bids.txt") (S.holds shelf.old) (S.holds shelf.new) }
 {
     match end {
-        Ok(Collected { text: Some(text) }) => {
-            put_file(alloc, shelf, prose, "bids.txt", text.as_slice())
-        }
-        Ok(Collected { text: None }) => say_unsound(prose),
-        Err(stop) => say_stop(alloc, shelf, prose, &stop),
+        Ok(collected) => put_text(alloc, shelf, prose, collected),
+        Err(stop) => say_stop(alloc, shelf, prose, stop),
     }
 }
 
 /// Makes the text of bids of what lies in the other folder.
 #[tactic(auto, using(crate::proofs::Kept::same_kept))]
-fn collect_all<S: Shelf, T: Shelf>(
+fn collect_all<S: Shelf>(
     alloc: Global,
     shelf: &mut S,
-    sheets: &mut T,
+    sheets: &mut S,
+    prose: &mut Prose,
+    old: &[u8],
+) -> Result<DeskStatus, Memory>
+    ensures others { SameButAt (codes "bids.txt") (S.holds shelf.old) (S.holds shelf.new) }
+    ensures sheets { S.holds sheets.new ≡ S.holds sheets.old }
+{
+    let end = collect(alloc, shelf, sheets, prose, old);
+    put_collected(alloc, shelf, prose, &end)
+}
+
+/// Makes the text of bids, where none is there or it may be written over.
+#[tactic(auto, using(crate::proofs::Kept::same_kept))]
+fn collect_guarded<S: Shelf>(
+    alloc: Global,
+    shelf: &mut S,
+    sheets: &mut S,
     prose: &mut Prose,
     old: &[u8],
     is_forced: bool,
 ) -> Result<DeskStatus, Memory>
     ensures others { SameButAt (codes "bids.txt") (S.holds shelf.old) (S.holds shelf.new) }
-    ensures sheets { T.holds sheets.new ≡ T.holds sheets.old }
+    ensures sheets { S.holds sheets.new ≡ S.holds sheets.old }
 {
-    if !is_forced && is_taken(alloc, shelf)? {
+    if is_forced {
+        return collect_all(alloc, shelf, sheets, prose, old);
+    }
+    if is_taken(alloc, shelf)? {
         return say_taken(prose);
     }
-    let end = collect(alloc, shelf, sheets, prose, old);
-    put_collected(alloc, shelf, prose, end)
+    collect_all(alloc, shelf, sheets, prose, old)
 }
 
 /// The text of bids in another folder; nothing where there is no folder.
@@ -112,7 +143,7 @@ pub fn run_collect<S: Shelf, O: Sink>(
     let Ok(old) = old_bids(alloc, standing) else {
         return say_no_old(alloc, out);
     };
-    match collect_all(alloc, shelf, sheets, &mut prose, &old, is_forced) {
+    match collect_guarded(alloc, shelf, sheets, &mut prose, &old, is_forced) {
         Ok(status) => say(out, &prose, status),
         Err(Memory::NoMemory) => DeskStatus::NoMemory,
     }

@@ -73,6 +73,24 @@ fn put_page<S: Shelf>(
     put_file(alloc, shelf, prose, file, page.as_slice())
 }
 
+/// Writes a page under this name, where there is one.
+#[tactic(auto, using(crate::proofs::Kept::same_kept))]
+fn put_made<S: Shelf>(
+    alloc: Global,
+    shelf: &mut S,
+    prose: &mut Prose,
+    name: &str,
+    file: &str,
+    made: &Option<List<u8>>,
+) -> Result<DeskStatus, Memory>
+    ensures others { SameButAt file.now (S.holds shelf.old) (S.holds shelf.new) }
+{
+    match made {
+        Some(page) => put_page(alloc, shelf, prose, file, page),
+        None => say_unknown(prose, name),
+    }
+}
+
 /// Writes the page of the pilot of this name.
 #[tactic(auto, using(crate::proofs::Kept::same_kept))]
 pub fn run_pilot_page<S: Shelf>(
@@ -86,8 +104,7 @@ pub fn run_pilot_page<S: Shelf>(
 {
     let file = file_of(alloc, name)?;
     match pilot_page(alloc, shelf, name.as_bytes(), built) {
-        Ok(Some(page)) => put_page(alloc, shelf, prose, file.as_str(), &page),
-        Ok(None) => say_unknown(prose, name),
+        Ok(made) => put_made(alloc, shelf, prose, name, file.as_str(), &made),
         Err(stop) => say_stop(alloc, shelf, prose, &stop),
     }
 }

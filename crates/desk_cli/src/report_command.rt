@@ -7,7 +7,7 @@ use crate::stops::say_stop;
 use crate::writing::put_file;
 use duty_calendar::Memory;
 use file_places::Prose;
-use month_report::{Report, report};
+use month_report::{Report, planner_report};
 use shelf::Shelf;
 use std::alloc::Global;
 
@@ -40,7 +40,7 @@ pub fn run_report<S: Shelf>(
     ensures others { SameButAtTwo (codes "report.html") (codes "report.csv") (S.holds shelf.old)
         (S.holds shelf.new) }
 {
-    match report(alloc, shelf, built) {
+    match planner_report(alloc, shelf, built) {
         Ok(made) => put_report(alloc, shelf, prose, &made),
         Err(stop) => say_stop(alloc, shelf, prose, &stop),
     }

@@ -9,4 +9,4 @@ mod records;
 mod reporting;
 mod wanted;
 
-pub use reporting::{Report, report};
+pub use reporting::{Report, planner_report};

@@ -38,7 +38,11 @@ fn report_of(alloc: Global, seen: &Seen, built: &[u8]) -> Result<Report, PageSto
 }
 
 /// The report of the award in the folder. No file is written.
-pub fn report<S: Shelf>(alloc: Global, shelf: &mut S, built: &[u8]) -> Result<Report, PageStop>
+pub fn planner_report<S: Shelf>(
+    alloc: Global,
+    shelf: &mut S,
+    built: &[u8],
+) -> Result<Report, PageStop>
     ensures kept { S.holds shelf.new ≡ S.holds shelf.old }
 {
     let seen = read_seen(alloc, shelf)?;
