@@ -237,7 +237,7 @@ fn file_of(prose: &mut Prose, head: &[u8], sheet: &[u8]) -> Result<Option<FileNa
 }
 
 /// The file of the rows of a sheet.
-fn imported(
+fn made_of(
     alloc: Global,
     prose: &mut Prose,
     name: &[u8],
@@ -281,5 +281,5 @@ pub fn import_sheet(
     let separator = separator_of(text);
     let rows = rows_of(alloc, text, separator)?;
     say_alike(prose, text, separator, rows.as_slice())?;
-    imported(alloc, prose, name, names, rows.as_slice())
+    made_of(alloc, prose, name, names, rows.as_slice())
 }
