@@ -1,0 +1,4 @@
+pub mod Lags
+pub mod Carrying
+pub mod Heirs
+pub mod Causes
