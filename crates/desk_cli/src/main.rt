@@ -92,8 +92,13 @@ fn collected<'a, R: Files + AllocGlobal>(
     out: &mut impl Sink,
     words: CollectWords,
 ) -> DeskStatus {
-    let mut sheets = FolderShelf::new(rt, words.sheets);
-    match words.standing {
+    let CollectWords {
+        sheets,
+        standing,
+        is_forced,
+    } = words;
+    let mut sheets = FolderShelf::new(rt, sheets);
+    match standing {
         Some(folder) => {
             let mut old = FolderShelf::new(rt, folder);
             run_collect(
@@ -102,10 +107,33 @@ fn collected<'a, R: Files + AllocGlobal>(
                 &mut sheets,
                 Some(&mut old),
                 out,
-                words.is_forced,
+                is_forced,
             )
         }
-        None => run_collect(rt.alloc(), shelf, &mut sheets, None, out, words.is_forced),
+        None => run_collect(rt.alloc(), shelf, &mut sheets, None, out, is_forced),
+    }
+}
+
+/// Does what a command asks of a folder.
+fn run_over<R: Files + Input + Env + AllocGlobal>(
+    rt: &R,
+    folder: String,
+    command: DeskCommand,
+    out: &mut impl Sink,
+) -> DeskStatus {
+    let mut shelf = FolderShelf::new(rt, folder);
+    match command {
+        DeskCommand::ExplainInput => run_explain(rt.alloc(), &mut shelf, out, &standard_input(rt)),
+        DeskCommand::Diff(other) => diff_with(rt, &mut shelf, other.as_str(), out),
+        DeskCommand::Import(words) => import_from(rt, &mut shelf, &words, out),
+        DeskCommand::Collect(words) => collected(rt, &mut shelf, out, words),
+        command => run(
+            rt.alloc(),
+            &mut shelf,
+            out,
+            &command,
+            built_from(rt).as_bytes(),
+        ),
     }
 }
 
@@ -115,25 +143,11 @@ fn main(rt: HostRuntime) -> ExitCode {
         return ExitCode::from(DeskStatus::NoMemory.code());
     };
     let Request { folder, command } = request;
-    if let DeskCommand::Calendars(old) = &command {
-        let status = calendars_in_folders(&rt, folder.as_str(), old.as_ref(), &mut out);
-        return ExitCode::from(status.code());
-    }
-    let mut shelf = FolderShelf::new(&rt, folder);
     let status = match command {
-        DeskCommand::ExplainInput => {
-            run_explain(rt.alloc(), &mut shelf, &mut out, &standard_input(&rt))
+        DeskCommand::Calendars(old) => {
+            calendars_in_folders(&rt, folder.as_str(), old.as_ref(), &mut out)
         }
-        DeskCommand::Diff(other) => diff_with(&rt, &mut shelf, other.as_str(), &mut out),
-        DeskCommand::Import(words) => import_from(&rt, &mut shelf, &words, &mut out),
-        DeskCommand::Collect(words) => collected(&rt, &mut shelf, &mut out, words),
-        command => run(
-            rt.alloc(),
-            &mut shelf,
-            &mut out,
-            &command,
-            built_from(&rt).as_bytes(),
-        ),
+        command => run_over(&rt, folder, command, &mut out),
     };
     ExitCode::from(status.code())
 }
