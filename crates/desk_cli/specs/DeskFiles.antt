@@ -31,7 +31,6 @@ Leaves command.Packet old new = SameButAt (codes "packet.html") old new
 Leaves (command.Collect words) old new = new ≡ old
 Leaves (command.Diff other) old new = new ≡ old
 Leaves (command.Calendars since) old new = new ≡ old
-Leaves (command.Import words) old new = new ≡ old
 Leaves command.Report old new = SameButAtTwo (codes "report.html") (codes "report.csv") old new
 Leaves command.Help old new = new ≡ old
 Leaves command.Usage old new = new ≡ old

@@ -4,9 +4,9 @@ use duty_calendar::Memory;
 use file_places::Prose;
 
 /// What each command is for.
-static HELP: [&[u8]; 23] = [
+static HELP: [&[u8]; 22] = [
     b"pbs-desk FOLDER COMMAND: what pbs does not say, and pages. It writes no file that pbs reads, but what\n",
-    b"collect and import make.\n",
+    b"collect makes.\n",
     b"\n",
     b"  explain LINE   says a line that pbs printed as a sentence, with the text that it points to and a mark\n",
     b"                 below it; without LINE it reads the lines from standard input: pbs FOLDER check |\n",
@@ -23,7 +23,6 @@ static HELP: [&[u8]; 23] = [
     b"                 it ends with 0 where nothing is, and with 1 where something is\n",
     b"  calendars [--cancelled OLD]   writes calendars/NAME.ics for each pilot, for phones; what fell away since\n",
     b"                 the calendars or the award in the folder OLD is cancelled there\n",
-    b"  import SHEET [--force]   makes a file of the month of a spreadsheet's CSV, and says each change\n",
     b"  help           says this\n",
     b"\n",
     b"Pages open in any browser, on a phone too, and ask for no network.\n",
@@ -41,6 +40,6 @@ pub fn put_help(prose: &mut Prose) -> Result<(), Memory> {
 /// Appends how the program is called.
 pub fn put_usage(prose: &mut Prose) -> Result<(), Memory> {
     prose.say(
-        b"usage: pbs-desk FOLDER explain [LINE] | lint | packet | collect DIR [--standing OLD] [--force] | page [MEMBER] | report | diff OTHER | calendars [--cancelled OLD] | import SHEET [--force] | help\n",
+        b"usage: pbs-desk FOLDER explain [LINE] | lint | packet | collect DIR [--standing OLD] [--force] | page [MEMBER] | report | diff OTHER | calendars [--cancelled OLD] | help\n",
     )
 }

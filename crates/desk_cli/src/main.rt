@@ -12,9 +12,6 @@ mod diff_main;
 mod diff_words;
 mod explain_command;
 mod help;
-mod import_command;
-mod import_main;
-mod import_words;
 mod lint_command;
 mod names_file;
 mod packet_command;
@@ -32,7 +29,6 @@ use crate::calendars_main::calendars_in_folders;
 use crate::collect_command::run_collect;
 use crate::collect_words::CollectWords;
 use crate::diff_main::diff_with;
-use crate::import_main::import_from;
 use crate::runner::{run, run_explain};
 use crate::status::DeskStatus;
 use crate::words::{DeskCommand, Request, request_of};
@@ -125,7 +121,6 @@ fn run_over<R: Files + Input + Env + AllocGlobal>(
     match command {
         DeskCommand::ExplainInput => run_explain(rt.alloc(), &mut shelf, out, &standard_input(rt)),
         DeskCommand::Diff(other) => diff_with(rt, &mut shelf, other.as_str(), out),
-        DeskCommand::Import(words) => import_from(rt, &mut shelf, &words, out),
         DeskCommand::Collect(words) => collected(rt, &mut shelf, out, words),
         command => run(
             rt.alloc(),

@@ -71,7 +71,6 @@ fn answer<S: Shelf>(
         DeskCommand::Report => run_report(alloc, shelf, prose, built),
         DeskCommand::ExplainInput | DeskCommand::Collect(_) => Ok(DeskStatus::Done),
         DeskCommand::Diff(_) | DeskCommand::Calendars(_) => Ok(DeskStatus::Done),
-        DeskCommand::Import(_) => Ok(DeskStatus::Done),
         DeskCommand::Help => say_help(prose),
         DeskCommand::Usage => say_usage(prose),
     }

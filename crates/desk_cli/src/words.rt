@@ -3,7 +3,6 @@
 use crate::calendars_words::{calendars_grammar, calendars_words};
 use crate::collect_words::{CollectWords, collect_grammar, collect_words};
 use crate::diff_words::{diff_grammar, diff_words};
-use crate::import_words::{ImportWords, import_grammar, import_words};
 use crate::page_words::{page_grammar, page_words};
 use clap::error::ErrorKind;
 use clap::{ArgMatches, Command as Grammar};
@@ -32,8 +31,6 @@ pub enum DeskCommand {
     Diff(String),
     /// Write a calendar for each pilot, and cancel what fell away since another folder where one is named.
     Calendars(Option<String>),
-    /// Make a file of the month of a sheet.
-    Import(ImportWords),
     /// Say what each command is for.
     Help,
     /// Say that the words are no command.
@@ -68,8 +65,7 @@ fn with_lone<'w>(alloc: Global) -> Result<Grammar<'w>, AllocError> {
 /// A program with the commands over other folders.
 fn with_others<'w>(alloc: Global, program: Grammar<'w>) -> Result<Grammar<'w>, AllocError> {
     let program = and_command(program, diff_grammar(alloc))?;
-    let program = and_command(program, calendars_grammar(alloc))?;
-    and_command(program, import_grammar(alloc))
+    and_command(program, calendars_grammar(alloc))
 }
 
 /// The commands, but for `explain` and `help`, behind which any words may stand.
@@ -103,7 +99,6 @@ fn named(alloc: Global, name: &str, found: &ArgMatches<'_>) -> Result<DeskComman
         "collect" => collect_words(alloc, found),
         "diff" => diff_words(alloc, found),
         "calendars" => calendars_words(alloc, found),
-        "import" => import_words(alloc, found),
         "report" => Ok(DeskCommand::Report),
         _ => Ok(DeskCommand::Usage),
     }
