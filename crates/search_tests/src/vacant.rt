@@ -1,12 +1,10 @@
-//! Months with vacant lines, who may fly what, and what the judge says of an award with them.
-ghost use Rattle.std.specs.Prelude.{◌≡◌, ◌∷◌, []};
-ghost use Rattle.roster_model.specs.declared.proof.Item.TheVariants.{Count, Fixed, Split};
+//! Months with vacant lines, and who may fly what.
 
 use crate::june::{alone, empty_line, flown_line, flying, member, month, one, pairing, rules, two};
 use duty_calendar::List;
 use line_legality::complete;
-use open_time::{OpenFault, OpenNo, eligible, judge_open, settled, with_vacant};
-use roster_model::{Awarded, Bid, Item, Problem, Proof, Reasons, Roster, Wish};
+use open_time::{OpenFault, eligible, settled, with_vacant};
+use roster_model::{Bid, Problem, Roster, Wish};
 use std::alloc::Global;
 use std::process::Abort;
 
@@ -92,40 +90,4 @@ fn a_score_keeps_a_pairing_where_it_is(rt: HostRuntime) {
         left_of(&rt, alloc, &problem)
             == two(&rt, alloc, empty_line(&rt, alloc), flown_line(&rt, alloc))
     );
-}
-
-/// The proof that a member without bids scores nothing, whether it flies the one pairing or not.
-fn worthless(rt: &impl Abort, alloc: Global) -> Proof
-    ensures value { result ≡ Split 0 0 ∷ Fixed 0 ∷ Count 0 ∷ [] }
-{
-    let mut proof = two(rt, alloc, Item::Split(0, 0), Item::Fixed(0));
-    assert!(rt; proof.push(Item::Count(0)).is_ok());
-    proof
-}
-
-/// That proof, as all that shows an award of the month of one member without bids.
-fn awarded(rt: &impl Abort, alloc: Global) -> Awarded
-    ensures value { result ≡ record {
-      proofs = (Split 0 0 ∷ Fixed 0 ∷ Count 0 ∷ []) ∷ [];
-      shown = [];
-    } }
-{
-    Awarded {
-        proofs: one(rt, alloc, worthless(rt, alloc)),
-        shown: List::new(alloc),
-    }
-}
-
-#[test]
-fn an_award_without_vacant_lines_is_judged(rt: HostRuntime) {
-    let alloc = rt.alloc();
-    let problem = flying(&rt, alloc);
-    let awarded = awarded(&rt, alloc);
-    let reasons: Reasons = List::new(alloc);
-    let all = one(&rt, alloc, flown_line(&rt, alloc));
-    let accepted = judge_open(alloc, &problem, 0, None, &all, &reasons, &awarded);
-    assert!(rt; accepted == Ok(()));
-    let more = two(&rt, alloc, flown_line(&rt, alloc), empty_line(&rt, alloc));
-    let unproved = judge_open(alloc, &problem, 1, None, &more, &reasons, &awarded);
-    assert!(rt; unproved == Err(OpenNo::NoneProof));
 }
