@@ -47,6 +47,14 @@ fn cause_of(reasons: &[Denial], bid: BidRef) -> Option<Cause> {
     None
 }
 
+/// The minutes of a pairing, where there is one of this number.
+fn span_of(problem: &Problem, pairing: u32) -> Option<Interval> {
+    match problem.base.pairings.as_slice().get(pairing as usize) {
+        Some(pairing) => Some(pairing_span(pairing)),
+        None => None,
+    }
+}
+
 /// The minutes that a wish for days or for a trip is about.
 fn wanted(problem: &Problem, wish: &Wish) -> Option<Interval> {
     match wish {
@@ -54,10 +62,7 @@ fn wanted(problem: &Problem, wish: &Wish) -> Option<Interval> {
             start: first.saturating_mul(1440),
             stop: last.saturating_add(1).saturating_mul(1440),
         }),
-        Wish::Fly(pairing) => {
-            let pairings = problem.base.pairings.as_slice();
-            pairings.get(*pairing as usize).map(pairing_span)
-        }
+        Wish::Fly(pairing) => span_of(problem, *pairing),
         Wish::Avoid(_)
         | Wish::Prefer(_, _)
         | Wish::CreditBelow(_)

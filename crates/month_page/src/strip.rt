@@ -178,16 +178,16 @@ pub fn put_strip(html: &mut Html, horizon: &Horizon, pilot: &Pilot) -> Result<()
 
 /// Appends the head of a day.
 fn put_day_head(html: &mut Html, horizon: &Horizon, day: u32) -> Result<(), Memory> {
-    if is_weekend(horizon, FIRST_DAY + day) {
+    if is_weekend(horizon, FIRST_DAY.saturating_add(day)) {
         html.markup(b"<span class=\"d w\" style=\"--a:")?;
     } else {
         html.markup(b"<span class=\"d\" style=\"--a:")?;
     }
-    html.number(1440 * day)?;
+    html.number(day.saturating_mul(1440))?;
     html.markup(b"\">")?;
-    html.number(day + 1)?;
+    html.number(day.saturating_add(1))?;
     html.markup(b"<small>")?;
-    put_weekday(html, horizon, FIRST_DAY + day)?;
+    put_weekday(html, horizon, FIRST_DAY.saturating_add(day))?;
     html.markup(b"</small></span>\n")
 }
 
