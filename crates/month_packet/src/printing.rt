@@ -1,5 +1,6 @@
 //! The packet: what a month has before anybody bids.
-ghost use Rattle.std.specs.Prelude.{◌≡◌};
+ghost use Rattle.std.specs.Prelude.{◌≡◌, ◌≤◌, ◌<◌, ◌+◌};
+ghost use Rattle.duty_calendar.specs.Calendar.{month_days};
 
 use crate::crew::put_crew;
 use crate::days::put_calendar;
@@ -32,11 +33,25 @@ fn put_heading(html: &mut Html, base: &Base) -> Result<(), Memory> {
     )
 }
 
+/// The day of the month that is next to a day, counted from the first of the horizon.
+fn in_month(horizon: &Horizon, day: u32) -> u32
+    ensures first { 365 ≤ result }
+    ensures last { result < 365 + month_days horizon.now }
+{
+    let last = 364 + horizon.days();
+    if day < 365 {
+        return 365;
+    }
+    if day > last {
+        return last;
+    }
+    day
+}
+
 /// Appends a day of the month as a date in bids.
 fn put_day(alloc: Global, html: &mut Html, horizon: &Horizon, day: u32) -> Result<(), Memory> {
     let mut date = List::new(alloc);
-    let day = day.max(365).min(364 + horizon.days());
-    put_date(&mut date, horizon, day)?;
+    put_date(&mut date, horizon, in_month(horizon, day))?;
     html.text(date.as_slice())
 }
 

@@ -61,13 +61,15 @@ fn put_weekdays(html: &mut Html, horizon: &Horizon, first: u32, count: u32) -> R
 
 /// Whether a duty has a minute from 02:00 to 05:59 of a day.
 fn is_night_of(duty: &Duty, day: u32) -> bool {
-    let dawn = u64::from(day) * 1440;
-    u64::from(duty.report) < dawn + 360 && dawn + 120 < u64::from(duty.release)
+    let midnight = u64::from(day).saturating_mul(1440);
+    u64::from(duty.report) < midnight.saturating_add(360)
+        && midnight.saturating_add(120) < u64::from(duty.release)
 }
 
 /// Whether a duty is a night: it has a minute from 02:00 to 05:59.
 fn is_night(duty: &Duty) -> bool {
-    for day in duty.report / 1440..duty.release / 1440 + 1 {
+    let behind = (duty.release / 1440).saturating_add(1);
+    for day in duty.report / 1440..behind {
         if is_night_of(duty, day) {
             return true;
         }

@@ -1,5 +1,6 @@
 //! Open trips, and who could fly them beside the line, by the law of lines.
-ghost use Rattle.std.specs.Prelude.{◌≡◌, ◌<◌, All, length, true};
+ghost use Rattle.std.specs.Prelude.{◌≡◌, ◌<◌, All, length, nat_lt, true};
+ghost use Rattle.std.specs.List.{list_all};
 
 use duty_calendar::{List, Memory};
 use line_legality::{Illegal, legal};
@@ -38,17 +39,19 @@ fn with_pairing(alloc: Global, line: &[u32], pairing: u32) -> Result<Option<Line
     Ok(Line::new(list))
 }
 
+/// Whether each number is below a count.
+fn are_below(numbers: &[u32], count: u32) -> bool
+    ensures below { result ≡ list_all (λ n. nat_lt n count) numbers.now }
+{
+    numbers.iter().all(|number| *number < count)
+}
+
 /// Whether each number is one of a pairing.
+#[tactic(auto, using(crate::proofs::Known::all_below))]
 fn are_known(problem: &Problem, numbers: &[u32]) -> bool
     ensures known { result ≡ true → All (λ p. p < length problem.now.base.pairings) numbers.now }
 {
-    let count = problem.base.pairings.len() as u32;
-    for number in numbers {
-        if *number >= count {
-            return false;
-        }
-    }
-    true
+    are_below(numbers, problem.base.pairings.len() as u32)
 }
 
 /// Whether a line is legal for a member.

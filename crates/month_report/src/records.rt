@@ -1,4 +1,6 @@
 //! The report as records of four fields: of what kind a row is, its name, the figure, and its value. Credit is in minutes.
+ghost use Rattle.std.specs.Prelude.{◌≤◌, ◌<◌, ◌+◌};
+ghost use Rattle.duty_calendar.specs.Calendar.{month_days};
 
 use crate::figures::{DayFigure, Figures};
 use crate::open::OpenTrip;
@@ -95,11 +97,25 @@ fn add_causes(records: &mut Records, pilots: &[Pilot]) -> Result<(), Memory> {
     Ok(())
 }
 
+/// The day of the month that is next to a day, counted from the first of the horizon.
+fn in_month(horizon: &Horizon, day: u32) -> u32
+    ensures first { 365 ≤ result }
+    ensures last { result < 365 + month_days horizon.now }
+{
+    let last = 364 + horizon.days();
+    if day < 365 {
+        return 365;
+    }
+    if day > last {
+        return last;
+    }
+    day
+}
+
 /// Adds what was wanted of a day.
 fn add_day(records: &mut Records, horizon: &Horizon, figure: DayFigure) -> Result<(), Memory> {
     let mut date = List::new(records.alloc);
-    let day = figure.day.max(365).min(364 + horizon.days());
-    put_date(&mut date, horizon, day)?;
+    put_date(&mut date, horizon, in_month(horizon, figure.day))?;
     records.number(b"day", date.as_slice(), b"wanted off", figure.wanted)?;
     records.number(b"day", date.as_slice(), b"granted off", figure.granted)
 }
