@@ -113,10 +113,11 @@ fn texts_of_before<S: Shelf>(
     let mut texts = Vec::new(alloc);
     for member in now.problem.base.members.as_slice() {
         let name = member.name.bytes();
-        match text_of_before(alloc, calendars, folder, before, name) {
-            Ok(text) => texts.push(text)?,
+        let text = match text_of_before(alloc, calendars, folder, before, name) {
+            Ok(text) => text,
             Err(fault) => return Ok(Earlier::Refused(say_fault(prose, name, fault)?)),
-        }
+        };
+        texts.push(text)?;
     }
     Ok(Earlier::Texts(texts))
 }

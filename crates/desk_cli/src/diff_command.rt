@@ -1,5 +1,6 @@
 //! `diff`: what is otherwise in the roster of a folder than in another one.
-ghost use Rattle.std.specs.Prelude.{◌≡◌, ◌<◌, All, length};
+ghost use Rattle.std.specs.Prelude.{◌≡◌};
+ghost use Rattle.roster_text.specs.RosterText.{IsRoster};
 
 use crate::award::{Award, tell_award, tell_roster_in};
 use crate::runner::say;
@@ -7,7 +8,7 @@ use crate::status::DeskStatus;
 use duty_calendar::Memory;
 use file_places::Prose;
 use roster_diff::{Difference, differences};
-use roster_model::Problem;
+use roster_model::{Problem, Roster};
 use shelf::{Shelf, Sink};
 use std::alloc::Global;
 
@@ -35,6 +36,21 @@ fn are_one_month(one: &Problem, other: &Problem) -> bool {
     here.year() == there.year() && here.month() == there.month()
 }
 
+/// Appends the differences from one roster to another.
+fn say_between(
+    alloc: Global,
+    prose: &mut Prose,
+    before: &Problem,
+    before_roster: &Roster,
+    now: &Award,
+) -> Result<DeskStatus, Memory>
+    requires before { IsRoster before.now before_roster.now }
+    requires now { IsRoster now.now.problem now.now.roster }
+{
+    let list = differences(alloc, before, before_roster, &now.problem, &now.roster)?;
+    put_differences(alloc, prose, list.as_slice())
+}
+
 /// Appends the differences from the award in a folder.
 fn say_from_folder<S: Shelf>(
     alloc: Global,
@@ -42,8 +58,7 @@ fn say_from_folder<S: Shelf>(
     prose: &mut Prose,
     now: &Award,
 ) -> Result<DeskStatus, Memory>
-    requires lines { length now.now.roster ≡ length now.now.problem.base.members }
-    requires in_range { All (All (λ p. p < length now.now.problem.base.pairings)) now.now.roster }
+    requires now { IsRoster now.now.problem now.now.roster }
     ensures kept { S.holds other.new ≡ S.holds other.old }
 {
     let Some(before) = tell_award(alloc, other, prose)? else {
@@ -54,14 +69,7 @@ fn say_from_folder<S: Shelf>(
         prose.say(b"the folders are of two months\n")?;
         return Ok(DeskStatus::Faulty);
     }
-    let list = differences(
-        alloc,
-        &before.problem,
-        &before.roster,
-        &now.problem,
-        &now.roster,
-    )?;
-    put_differences(alloc, prose, list.as_slice())
+    say_between(alloc, prose, &before.problem, &before.roster, now)
 }
 
 /// Appends the differences from another roster of the month.
@@ -72,8 +80,7 @@ fn say_from_file<S: Shelf>(
     file: &str,
     now: &Award,
 ) -> Result<DeskStatus, Memory>
-    requires lines { length now.now.roster ≡ length now.now.problem.base.members }
-    requires in_range { All (All (λ p. p < length now.now.problem.base.pairings)) now.now.roster }
+    requires now { IsRoster now.now.problem now.now.roster }
     ensures kept { S.holds other.new ≡ S.holds other.old }
 {
     if file.is_empty() || file.len() > 32 {
@@ -84,8 +91,7 @@ fn say_from_file<S: Shelf>(
         prose.say(b"(this is said of the file behind diff)\n")?;
         return Ok(DeskStatus::Faulty);
     };
-    let list = differences(alloc, &now.problem, &before, &now.problem, &now.roster)?;
-    put_differences(alloc, prose, list.as_slice())
+    say_between(alloc, prose, &now.problem, &before, now)
 }
 
 /// Appends what is otherwise in the award of a folder than in another folder, or in a file there where one is named.
