@@ -16,6 +16,10 @@ use Rattle.roster_model.specs.declared.proof.Lens.{Lens}
 use Rattle.roster_model.specs.Closing.{Closes, IsAccepted, IsMiscrewed, IsMisfit, IsLineless}
 use Rattle.roster_model.specs.Lenses.{IsOutweighed}
 use Rattle.roster_model.proofs.Walk.{Leads-append, Closes_walked}
+use Rattle.term_lines.specs.Overs.{IfLine}
+use Rattle.term_lines.specs.declared.above.Over.{Over}
+use Rattle.term_lines.specs.declared.above.Over.TheVariants.{Line, Nothing, Limit}
+use Rattle.term_lines.specs.declared.priced.PricedLine.{PricedLine}
 
 -- what a call that did not fail ensures
 pub ok_fact : {T E P : Type 0} (r : Result T E) → is_err r ≡ false → OnOk r P → P
@@ -26,6 +30,11 @@ ok_fact (Err y) e h = cc
 pub some_at : {X : Type 0} (o : Option X) (x : X) (P : X → Type 0) → o ≡ Some x → IfSome o P → P x
 some_at (Some y) x P e h = let same : y ≡ x = cc e in subst P same h
 some_at None x P e h = absurd (cc e)
+
+pub line_at : (o : Over) (x : PricedLine) (P : PricedLine → Type 0) → o ≡ Line x → IfLine o P → P x
+line_at (Line y) x P e h = let same : y ≡ x = cc e in subst P same h
+line_at Nothing x P e h = absurd (cc e)
+line_at Limit x P e h = absurd (cc e)
 
 -- what is said of the error that a call hands on
 pub err_at : {T E : Type 0} (r : Result T E) (e : E) (P : E → Type 0) → IsErrAnd r (λ y. y ≡ e) → P e → IfErr r P

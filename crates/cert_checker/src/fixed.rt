@@ -62,7 +62,7 @@ fn decided_line(
 }
 
 /// Whether the line reaches the member's floor.
-fn is_floor_met(problem: &Problem, goal: &Goal, member: u32, line: &Line) -> bool
+pub(crate) fn is_floor_met(problem: &Problem, goal: &Goal, member: u32, line: &Line) -> bool
     requires member { member < length problem.now.base.members }
     requires pairings { All (λ p. p < length problem.now.base.pairings) line.now }
     ensures met { IsTrue result ↔ IsFloorMet problem.now goal.now member line.now }
@@ -74,7 +74,7 @@ fn is_floor_met(problem: &Problem, goal: &Goal, member: u32, line: &Line) -> boo
 }
 
 /// Whether the line grants the goal's bid, where that is the member's.
-fn is_bid_met(problem: &Problem, goal: &Goal, member: u32, line: &Line) -> bool
+pub(crate) fn is_bid_met(problem: &Problem, goal: &Goal, member: u32, line: &Line) -> bool
     requires goal { IsGoal problem.now goal.now }
     requires member { member < length problem.now.base.members }
     requires pairings { All (λ p. p < length problem.now.base.pairings) line.now }

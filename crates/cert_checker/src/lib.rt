@@ -7,6 +7,7 @@ mod bests;
 mod count;
 mod fixed;
 mod goals;
+mod guesses;
 mod legals;
 mod noline;
 mod noted;

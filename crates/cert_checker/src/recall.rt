@@ -7,7 +7,8 @@ ghost use Rattle.cert_checker.specs.Faults.{IsStepFault};
 ghost use Rattle.cert_checker.specs.Bests.{IsShapeFault, IsWithin};
 ghost use Rattle.cert_checker.specs.Recalls.{AsksAlone, IsAnswerTo, IsRight, IsRightAnswer, IsRightSheet, IsSheetOf, answer_of};
 
-use crate::bests::{best_weight, heaviest_line};
+use crate::bests::heaviest_line;
+use crate::guesses::guessed_bound;
 use crate::noted::Noted;
 use crate::refusal::StepFault;
 use duty_calendar::{Copied, List, Memory};
@@ -202,9 +203,14 @@ fn keep(
     }
 }
 
+/// Whether the line is noted of the member.
+fn is_noted(noted: &[Noted], member: u32, line: &Line) -> bool {
+    noted.iter().any(|it| it.member == member && it.line.pairings() == line.pairings())
+}
+
 /// Notes a line of the member where there is room.
 fn note(noted: &mut List<Noted>, member: u32, line: Line) -> Result<(), Memory> {
-    if noted.len() >= MOST_NOTED {
+    if noted.len() >= MOST_NOTED || is_noted(noted.as_slice(), member, &line) {
         return Ok(());
     }
     match noted.push(Noted { member, line }) {
@@ -234,7 +240,8 @@ fn noted_weight(
         (HasNoLine problem.now member goal.now node.now lens.now)) }
     ensures fault { IfErr result (IsStepFault (IsShapeFault problem.now member lens.now)) }
 {
-    match heaviest_line(alloc, problem, member, goal, node, lens, weights)? {
+    let guess = guessed_bound(problem, noted.as_slice(), member, goal, node, weights);
+    match heaviest_line(alloc, problem, member, goal, node, lens, weights, guess)? {
         Some(priced) => {
             note(noted, member, priced.line)?;
             Ok(Some(priced.weight))
@@ -268,7 +275,16 @@ pub(crate) fn recalled_weight(
     ensures right { IsRight problem.now recall.new }
 {
     if !node.is_empty() || !asks_alone(goal, member) {
-        return best_weight(alloc, problem, member, goal, node, lens, weights);
+        return noted_weight(
+            alloc,
+            problem,
+            &mut recall.noted,
+            member,
+            goal,
+            node,
+            lens,
+            weights,
+        );
     }
     let floor = floor_of(goal, member);
     if let Some(best) = recalled(recall.sheets.as_slice(), weights, member, floor, lens) {

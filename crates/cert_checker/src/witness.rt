@@ -17,7 +17,7 @@ use roster_model::{BidRef, Cause, Denial, Line, Problem, Roster};
 use std::alloc::Global;
 
 /// Whether the line names pairings of the problem.
-fn is_in_range(problem: &Problem, line: &Line) -> bool
+pub(crate) fn is_in_range(problem: &Problem, line: &Line) -> bool
     ensures known { IsTrue result ↔ All (λ p. p < length problem.now.base.pairings) line.now }
 {
     line.pairings()

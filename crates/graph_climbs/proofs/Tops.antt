@@ -1,14 +1,16 @@
 -- What climbs come to, one after the other; and the top of one from the lowest bound.
-use Rattle.std.proofs.Common.{◌≡◌, ◌≢◌, subst, sym, ℕ, ℤ, Bool, List, Option, Some, None, arith}
-use Rattle.std.specs.Prelude.{IfNone, IfSome}
+use Rattle.std.proofs.Common.{◌≡◌, ◌≢◌, ◌+◌, ◌≤◌, subst, sym, ℕ, ℤ, Bool, List, Option, Some, None, Ok, Err, arith}
+use Rattle.std.specs.Prelude.{IfNone, IfOk, IfSome, Result}
 use Rattle.std.specs.Int.Signed.{◌<ℤ◌}
 use Rattle.std.proofs.lemmas.Int.{ints}
 use Rattle.label_setter.specs.Chains.{GraphOf, IsFeasible}
 use Rattle.label_setter.specs.declared.traces.Traced.{Traced}
 use Rattle.chain_search.specs.declared.search.Climb.{Climb}
+use Rattle.chain_search.specs.declared.search.Ended.TheVariants.{Enough, Limit}
 use Rattle.chain_search.specs.Climbs.{Climbs, IsAbove, NoneAbove, raised_to}
 use Rattle.chain_search.proofs.Climbing.{higher, raised_above}
-use Rattle.graph_climbs.specs.Climbs.{later, merged}
+use Rattle.graph_climbs.specs.Climbs.{IsClimb, later, merged}
+use Rattle.graph_climbs.specs.declared.stages.Target.{Target}
 
 pub is_some : {X : Type 0} (x : X) → ◌≡◌ {A = Option X} (Some x) None → ⊥
 is_some x e = cc
@@ -51,3 +53,31 @@ module _ {R S E : Type 0} (extend : R → S → Option R) (done : R → E → Bo
         enough = λ e. enough_on best climb.best (new.enough e);
         top = λ e. top_on low over best climb.best at (new.top e);
       })
+
+  -- the same of what climbs come to, with the steps of both
+  pub climb_on : (target aim : Target) (best : Option Traced) (before between after : ℕ) (climb result : Climb) → IfSome best (IsAbove extend done graph target.over)
+      → aim.over ≡ raised_to best target.over → aim.chains ≡ target.chains → before ≤ between → (climb.ended ≡ Limit → between + aim.limit ≡ before + target.limit)
+      → IsClimb extend done graph aim between after climb → result ≡ merged best climb → IsClimb extend done graph target before after result
+  climb_on target aim best before between after climb result old at chains le spent new is =
+      subst (IsClimb extend done graph target before after) (sym is) (record {
+        climbs = record {
+          found = found_on target.over aim.over best climb.best old at new.climbs.found;
+          enough = λ e. enough_on best climb.best (new.climbs.enough e);
+          top = λ e. top_on target.over aim.over best climb.best at (new.climbs.top e);
+        };
+        enough = λ e. let more = new.enough e in omega (arith, more, chains, le);
+        limit = λ e. let all = new.limit e in let here = spent e in omega (arith, all, here);
+        onward = let more = new.onward in omega (arith, more, le);
+      })
+
+  -- what a climb was told to come to
+  pub climb_told : {F : Type 0} (target : Target) (over : ℤ) (before after : ℕ) (r : Result Climb F) → over ≡ target.over → IfOk r (Climbs extend done graph over)
+      → IfOk r (λ climb. climb.ended ≡ Enough → before + target.chains ≤ after) → IfOk r (λ climb. climb.ended ≡ Limit → after ≡ before + target.limit)
+      → IfOk r (λ climb. before ≤ after) → IfOk r (IsClimb extend done graph target before after)
+  climb_told target over before after (Ok climb) same climbs enough limit onward = record {
+    climbs = subst (λ (z : ℤ). Climbs extend done graph z climb) same climbs;
+    enough = enough;
+    limit = limit;
+    onward = onward;
+  }
+  climb_told target over before after (Err fault) same climbs enough limit onward = tt

@@ -10,7 +10,7 @@ ghost use Rattle.chain_search.specs.Lastings.{lasting as lasting_bound};
 ghost use Rattle.chain_search.specs.Leavings.{AreWays};
 ghost use Rattle.chain_search.specs.Orders.{IsOrder};
 ghost use Rattle.graph_climbs.specs.Parts.{PartsStepOf, parts_done, parts_extend};
-ghost use Rattle.graph_climbs.specs.Climbs.{later, merged};
+ghost use Rattle.graph_climbs.specs.Climbs.{IsClimb, later, merged};
 
 use crate::search::best_chain;
 use crate::telling::telling_groups;
@@ -45,6 +45,40 @@ const LAST_BITS: u32 = 14;
 /// climb finds more chains.
 pub const MOST_STEPS: u64 = 20_000_000;
 
+/// What a climb looks for: so many chains, the first of which gains more than this, in so many steps.
+#[derive(Clone, Copy)]
+struct Target {
+    over: i64,
+    chains: u64,
+    limit: u64,
+}
+
+impl Target {
+    /// What is looked for once there is a chain, in so many steps.
+    fn raised(&self, best: &Option<Traced>, limit: u64) -> Target
+        ensures over { result.over ≡ raised_to best.now self.now.over }
+        ensures chains { result.chains ≡ self.now.chains }
+        ensures limit { result.limit ≡ limit }
+    {
+        match best {
+            Some(traced) => Target {
+                over: traced.gain,
+                chains: self.chains,
+                limit,
+            },
+            None => Target { limit, ..*self },
+        }
+    }
+}
+
+/// What tables tell apart: credit below its cap, and so many of the groups of bits.
+#[derive(Clone, Copy)]
+struct Tables<'a> {
+    groups: &'a [u64],
+    bits: u32,
+    cap: u32,
+}
+
 /// A climb by the least of four bounds: by three views, and by one that is a bound of the graph. Where one of the views
 /// does not follow the graph, by that one alone.
 fn climb_by_views<R, O, A, B, C, D, L>(
@@ -54,9 +88,7 @@ fn climb_by_views<R, O, A, B, C, D, L>(
     order: &O,
     views: (A, B, C),
     rest: D,
-    over: i64,
-    chains: u64,
-    limit: u64,
+    target: &Target,
     steps: &mut Steps<L>,
 ) -> Result<Climb, Memory>
 where
@@ -70,27 +102,15 @@ where
     requires ways { AreWays graph.now.arcs graph.now.places ways.now }
     requires order { IsOrder R.extend R.done graph.now (O.spares order.now) }
     requires rest { IsBound R.extend R.done graph.now (D.rest rest) }
-    requires some { 0 < chains }
-    ensures climbs { IfOk result (Climbs R.extend R.done graph.now over) }
-    ensures enough { IfOk result (λ climb. climb.ended ≡ Ended.Enough
-        → steps.old + chains ≤ steps.new) }
-    ensures limit { IfOk result (λ climb. climb.ended ≡ Ended.Limit
-        → steps.new ≡ steps.old + limit) }
-    ensures onward { IfOk result (λ climb. steps.old ≤ steps.new) }
-    ensures steps { steps.new ≤ steps.old + limit }
+    requires some { 0 < target.now.chains }
+    ensures climb { IfOk result (IsClimb R.extend R.done graph.now target.now steps.old steps.new) }
+    ensures steps { steps.new ≤ steps.old + target.now.limit }
 {
     let (first, second, third) = views;
+    let (over, chains, limit) = (target.over, target.chains, target.limit);
     if !follows(graph, &first) || !follows(graph, &second) || !follows(graph, &third) {
-        return climb_above(
-            alloc,
-            graph,
-            ways,
-            order,
-            Above { rest, over },
-            chains,
-            limit,
-            steps,
-        );
+        let above = Above { rest, over };
+        return climb_above(alloc, graph, ways, order, above, chains, limit, steps);
     }
     let first = coarse_rest(alloc, graph, ways, first)?;
     let second = coarse_rest(alloc, graph, ways, second)?;
@@ -98,34 +118,25 @@ where
     let both = least_rest(graph, first, second);
     let three = least_rest(graph, both, third);
     let rest = least_rest(graph, three, rest);
-    climb_above(
-        alloc,
-        graph,
-        ways,
-        order,
-        Above { rest, over },
-        chains,
-        limit,
-        steps,
-    )
+    let above = Above { rest, over };
+    climb_above(alloc, graph, ways, order, above, chains, limit, steps)
 }
 
 /// The views of a stage: the credit that is left, the credit that is due, and so many groups of bids.
 fn views_of(
     alloc: Global,
-    cap: u32,
+    tables: &Tables<'_>,
     low: u32,
-    groups: &[u64],
-    bits: u32,
     end: &MaskEnd,
 ) -> Result<(First<Room>, First<Due>, Second<First<Bits>>), Memory> {
+    let (groups, cap) = (tables.groups, tables.cap);
     let room = First {
         view: Room { cap, unit: HOUR },
     };
     let due = First {
         view: Due { low, unit: HOUR },
     };
-    let count = groups.len().min(bits as usize);
+    let count = groups.len().min(tables.bits as usize);
     let view = Bits::new(alloc, &groups[..count], end)?;
     let bits = Second {
         view: First { view },
@@ -139,13 +150,9 @@ fn climb_by_tables<B, O, D, L>(
     graph: &Graph<Pair<Span, Pair<Mask, B>>>,
     ways: &Ways,
     order: &O,
-    groups: &[u64],
-    cap: u32,
-    bits: u32,
+    tables: &Tables<'_>,
     rest: D,
-    over: i64,
-    chains: u64,
-    limit: u64,
+    target: &Target,
     steps: &mut Steps<L>,
 ) -> Result<Climb, Memory>
 where
@@ -157,31 +164,14 @@ where
     requires order { IsOrder (parts_extend B.extend) (parts_done B.done) graph.now
         (O.spares order.now) }
     requires rest { IsBound (parts_extend B.extend) (parts_done B.done) graph.now (D.rest rest) }
-    requires some { 0 < chains }
-    ensures climbs { IfOk result (Climbs (parts_extend B.extend)
-        (parts_done B.done) graph.now over) }
-    ensures enough { IfOk result (λ climb. climb.ended ≡ Ended.Enough
-        → steps.old + chains ≤ steps.new) }
-    ensures limit { IfOk result (λ climb. climb.ended ≡ Ended.Limit
-        → steps.new ≡ steps.old + limit) }
-    ensures onward { IfOk result (λ climb. steps.old ≤ steps.new) }
-    ensures steps { steps.new ≤ steps.old + limit }
+    requires some { 0 < target.now.chains }
+    ensures climb { IfOk result (IsClimb (parts_extend B.extend) (parts_done B.done) graph.now
+        target.now steps.old steps.new) }
+    ensures steps { steps.new ≤ steps.old + target.now.limit }
 {
     let end = graph.end();
-    let views = views_of(alloc, cap, end.0.low, groups, bits, &end.1.0)?;
-    climb_by_views(
-        alloc, graph, ways, order, views, rest, over, chains, limit, steps,
-    )
-}
-
-/// The gain of the chain, where there is one, else the bound.
-fn bound_of(best: &Option<Traced>, over: i64) -> i64
-    ensures bound { result ≡ raised_to best.now over }
-{
-    match best {
-        Some(traced) => traced.gain,
-        None => over,
-    }
+    let views = views_of(alloc, tables, end.0.low, &end.1.0)?;
+    climb_by_views(alloc, graph, ways, order, views, rest, target, steps)
 }
 
 /// The chain that was found last.
@@ -204,19 +194,16 @@ fn merged(best: Option<Traced>, climb: Climb) -> Climb
     }
 }
 
-/// A climb by the stages behind the first, each with a table that tells more groups of bits apart, and by a bound of the graph.
-/// It has so many steps in all of them together.
+/// A climb by the stages behind the first, each with a table that tells more groups of bits apart, up to those of the tables, and by a
+/// bound of the graph. It has so many steps in all of them together.
 fn climb_from<B, O, D, L>(
     alloc: Global,
     graph: &Graph<Pair<Span, Pair<Mask, B>>>,
     ways: &Ways,
     order: &O,
     rest: &D,
-    groups: &[u64],
-    cap: u32,
-    over: i64,
-    chains: u64,
-    limit: u64,
+    tables: &Tables<'_>,
+    target: &Target,
     steps: &mut Steps<L>,
 ) -> Result<Climb, Memory>
 where
@@ -228,33 +215,24 @@ where
     requires rest { IsBound (parts_extend B.extend) (parts_done B.done) graph.now (D.rest rest.now) }
     requires order { IsOrder (parts_extend B.extend) (parts_done B.done) graph.now
         (O.spares order.now) }
-    requires some { 0 < chains }
-    ensures climbs { IfOk result (Climbs (parts_extend B.extend) (parts_done B.done) graph.now
-        over) }
-    ensures enough { IfOk result (λ climb. climb.ended ≡ Ended.Enough
-        → steps.old + chains ≤ steps.new) }
-    ensures limit { IfOk result (λ climb. climb.ended ≡ Ended.Limit
-        → steps.new ≡ steps.old + limit) }
-    ensures onward { IfOk result (λ climb. steps.old ≤ steps.new) }
-    ensures steps { steps.new ≤ steps.old + limit }
+    requires some { 0 < target.now.chains }
+    ensures climb { IfOk result (IsClimb (parts_extend B.extend) (parts_done B.done) graph.now
+        target.now steps.old steps.new) }
+    ensures steps { steps.new ≤ steps.old + target.now.limit }
 {
     let mut best: Option<Traced> = None;
-    let mut left = limit;
+    let mut left = target.limit;
     for (bits, most) in STAGES {
-        let from = bound_of(&best, over);
         let share = most.min(left);
+        let aim = target.raised(&best, share);
         let climb = climb_by_tables::<B, O, Held<'_, D>, L>(
             alloc,
             graph,
             ways,
             order,
-            groups,
-            cap,
-            bits,
+            &Tables { bits, ..*tables },
             Held { inner: rest },
-            from,
-            chains,
-            share,
+            &aim,
             steps,
         )?;
         left -= share;
@@ -264,19 +242,15 @@ where
         }
         best = climb.best;
     }
-    let from = bound_of(&best, over);
+    let aim = target.raised(&best, left);
     let climb = climb_by_tables::<B, O, Held<'_, D>, L>(
         alloc,
         graph,
         ways,
         order,
-        groups,
-        cap,
-        LAST_BITS,
+        tables,
         Held { inner: rest },
-        from,
-        chains,
-        left,
+        &aim,
         steps,
     )?;
     Ok(merged(best, climb))
@@ -289,11 +263,8 @@ fn climb_by_blocks<B, O, L>(
     ways: &Ways,
     order: &O,
     lasting: Lasting,
-    groups: &[u64],
-    cap: u32,
-    over: i64,
-    chains: u64,
-    limit: u64,
+    tables: &Tables<'_>,
+    target: &Target,
     steps: &mut Steps<L>,
 ) -> Result<Climb, Memory>
 where
@@ -304,25 +275,20 @@ where
     requires rest { IsBound (parts_extend B.extend) (parts_done B.done) graph.now (lasting_bound lasting) }
     requires order { IsOrder (parts_extend B.extend) (parts_done B.done) graph.now
         (O.spares order.now) }
-    requires some { 0 < chains }
-    ensures climbs { IfOk result (Climbs (parts_extend B.extend) (parts_done B.done) graph.now
-        over) }
-    ensures enough { IfOk result (λ climb. climb.ended ≡ Ended.Enough
-        → steps.old + chains ≤ steps.new) }
-    ensures limit { IfOk result (λ climb. climb.ended ≡ Ended.Limit
-        → steps.new ≡ steps.old + limit) }
-    ensures onward { IfOk result (λ climb. steps.old ≤ steps.new) }
-    ensures steps { steps.new ≤ steps.old + limit }
+    requires some { 0 < target.now.chains }
+    ensures climb { IfOk result (IsClimb (parts_extend B.extend) (parts_done B.done) graph.now
+        target.now steps.old steps.new) }
+    ensures steps { steps.new ≤ steps.old + target.now.limit }
 {
     if !asks_for_blocks::<Span, Mask, B>(graph) {
         return climb_from::<B, O, Lasting, L>(
-            alloc, graph, ways, order, &lasting, groups, cap, over, chains, limit, steps,
+            alloc, graph, ways, order, &lasting, tables, target, steps,
         );
     }
     let free = free_rest::<Span, Mask, B>(alloc, graph)?;
     let rest = least_rest(graph, lasting, free);
     climb_from::<B, O, LeastRest<Lasting, FreeRest>, L>(
-        alloc, graph, ways, order, &rest, groups, cap, over, chains, limit, steps,
+        alloc, graph, ways, order, &rest, tables, target, steps,
     )
 }
 
@@ -360,18 +326,19 @@ where
     let lasting = lasting_rest(alloc, graph, &ways)?;
     let (bits, most) = FIRST;
     let share = most.min(limit);
+    let groups = groups.as_slice();
     let climb = climb_by_tables::<B, O, Held<'_, Lasting>, L>(
         alloc,
         graph,
         &ways,
         order,
-        &groups,
-        cap,
-        bits,
+        &Tables { groups, bits, cap },
         Held { inner: &lasting },
-        over,
-        chains,
-        share,
+        &Target {
+            over,
+            chains,
+            limit: share,
+        },
         steps,
     )?;
     let left = limit - share;
@@ -379,9 +346,16 @@ where
         return Ok(climb);
     }
     let best = climb.best;
-    let from = bound_of(&best, over);
+    let target = Target {
+        over,
+        chains,
+        limit,
+    };
+    let aim = target.raised(&best, left);
+    let bits = LAST_BITS;
+    let tables = Tables { groups, bits, cap };
     let climb = climb_by_blocks::<B, O, L>(
-        alloc, graph, &ways, order, lasting, &groups, cap, from, chains, left, steps,
+        alloc, graph, &ways, order, lasting, &tables, &aim, steps,
     )?;
     Ok(merged(best, climb))
 }

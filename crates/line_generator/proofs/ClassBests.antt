@@ -23,8 +23,9 @@ use Rattle.count_graphs.proofs.FewCounted.{class_counts}
 use Rattle.line_generator.specs.declared.classes.Class.{Class}
 use Rattle.term_lines.specs.declared.priced.PricedLine.{PricedLine}
 use Rattle.line_generator.specs.ClassLines.{AllBelow, AllOfClass, AtMost, IsClassLine, IsClassOf, IsSpared, LosesImplied, heavier, spread}
-use Rattle.term_lines.specs.Questions.{IsTermQuestion}
-use Rattle.line_generator.specs.Questions.{IsQuestion}
+use Rattle.term_lines.specs.Overs.{HasNone, IsMost}
+use Rattle.term_lines.specs.Questions.{IsTermQuestionOf}
+use Rattle.line_generator.specs.Questions.{IsQuestionOf}
 use Rattle.line_generator.proofs.BidSets.{not_in, number_of, number_small, set_met}
 
 or_first : (a b : Bool) → a ≡ true → (a || b) ≡ true
@@ -54,8 +55,8 @@ module _ (problem : Problem) (member : ℕ) (goal : Goal) (node : List Decision)
   class_keeps granted class line of is = is.keeps class.terms class.lens of.are_terms of.is_lens
 
   -- what the search for the best line of a class is asked
-  pub term_question : (granted : ℕ → Bool) (class : Class) → IsQuestion problem member goal node lens weights → IsClassOf problem member goal lens granted class
-      → IsTermQuestion problem member node class.lens class.terms weights
+  pub term_question : (granted : ℕ → Bool) (class : Class) → IsQuestionOf problem member goal node lens weights → IsClassOf problem member goal lens granted class
+      → IsTermQuestionOf problem member node class.lens class.terms weights
   term_question granted class asked of = record {
     in_range = asked.in_range;
     fits = of.fits;
@@ -67,13 +68,13 @@ module _ (problem : Problem) (member : ℕ) (goal : Goal) (node : List Decision)
     small = asked.small;
   }
 
-  -- the best line of the class
-  pub most_of_class : (granted : ℕ → Bool) (class : Class) (answer : Option PricedLine) → IsClassOf problem member goal lens granted class
-      → IfSome answer (λ b. IsMostTermWeight problem member node class.lens class.terms weights b.weight)
-      → IfNone answer (HasNoTermLine problem member node class.lens class.terms)
+  -- what a best line of the class says of all its lines
+  pub most_of_class : (granted : ℕ → Bool) (answer : Option PricedLine)
+      → IfSome answer (λ b. IsMost (IsClassLine problem member goal node lens granted) weights b.weight)
+      → IfNone answer (HasNone (IsClassLine problem member goal node lens granted))
       → AllOfClass problem member goal node lens weights granted (AtMost answer)
-  most_of_class granted class None of most none = λ line is. none line (class_keeps granted class line of is)
-  most_of_class granted class (Some b) of most none = λ line is. most line (class_keeps granted class line of is)
+  most_of_class granted None most none = none
+  most_of_class granted (Some b) most none = most
 
   -- a set that leaves out what its terms imply is no class's
   pub loses_none : (granted : ℕ → Bool) (terms : Terms) → IsTerms problem member goal lens granted terms → AreTermsOf problem member terms
@@ -189,8 +190,3 @@ pub heavier_has : (P : PricedLine → Type 0) (first second : Option PricedLine)
 heavier_has P (Some a) (Some b) p q = picked P (int_lt a.weight b.weight) a b p q
 heavier_has P (Some a) None p q = p
 heavier_has P None second p q = q
-
--- what two facts on an answer say together
-pub ok_both : {X E : Type 0} (P Q T : X → Type 0) (r : Result X E) → ((x : X) → P x → Q x → T x) → IfOk r P → IfOk r Q → IfOk r T
-ok_both P Q T (Ok x) h p q = h x p q
-ok_both P Q T (Err e) h p q = tt

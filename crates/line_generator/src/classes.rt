@@ -1,6 +1,5 @@
 //! The terms and the lens of a class.
-ghost use Rattle.std.specs.Prelude.{◌≡◌, ◌<◌, ◌≤◌, ℕ, ℤ, List, true, length, IfNone, IfOk, IfSome};
-ghost use Rattle.roster_model.specs.Goals.{IsGoal};
+ghost use Rattle.std.specs.Prelude.{◌≡◌, ◌<◌, ℕ, List, length, IfNone, IfOk, IfSome};
 ghost use Rattle.roster_model.specs.Lenses.{IsLens};
 ghost use Rattle.roster_model.specs.Lawful.{bids_weight};
 ghost use Rattle.roster_model.specs.declared.node.Decision.{Decision};

@@ -7,14 +7,13 @@ ghost use Rattle.line_lens.specs.LensFaults.{IsLensFault};
 ghost use Rattle.line_lens.specs.declared.lens_fault.LensFault.{LensFault as Why};
 
 use crate::best_fault::BestFault;
-use crate::highest::heaviest_of_classes;
-use crate::plain::plain_terms;
+use crate::question::Question;
 use label_lattice::Steps;
 use line_lens::check_lens;
 use roster_model::{Goal, Lens, Node, Problem};
 use std::alloc::Global;
 use std::sync::ledger::Ledger;
-use term_lines::{PricedLine, heaviest_of_terms};
+use term_lines::{PricedLine, TermQuestion};
 
 /// As `best`, by searches above bounds that know the floor and the credit: milliseconds where labels alone may take
 /// minutes. How many steps it takes is not promised.
@@ -49,9 +48,25 @@ pub fn heaviest<L: Ledger>(
     if let Err(why) = check_lens(problem, member, lens) {
         return Err(BestFault::Lens(why));
     }
+    let asked = Question {
+        problem,
+        member,
+        goal,
+        node,
+        lens,
+        weights,
+    };
     if lens.whole {
-        return Ok(heaviest_of_classes(alloc, problem, member, goal, node, lens, weights, steps)?);
+        return Ok(asked.heaviest_of_classes(alloc, steps)?);
     }
-    let terms = plain_terms(problem, member, goal, node, lens, weights);
-    Ok(heaviest_of_terms(alloc, problem, member, &terms, node, lens, weights, steps)?)
+    let terms = asked.plain_terms();
+    let plain = TermQuestion {
+        problem,
+        member,
+        terms: &terms,
+        node,
+        lens,
+        weights,
+    };
+    Ok(plain.heaviest(alloc, steps)?)
 }

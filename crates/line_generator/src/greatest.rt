@@ -1,23 +1,19 @@
 //! The greatest weight over the classes of a lens.
-ghost use Rattle.std.specs.Prelude.{◌≡◌, ◌<◌, IfNone, IfOk, IfSome};
-ghost use Rattle.roster_model.specs.Lenses.{HasNoLine, IsLensLine, IsMostWeight};
-ghost use Rattle.roster_model.specs.Weights.{weight_of};
-ghost use Rattle.lens_classes.specs.Classes.{is_in};
-ghost use Rattle.lens_classes.specs.TermLines.{HasNoTermLine, IsMostTermWeight, IsTermLine};
-ghost use Rattle.line_generator.specs.ClassLines.{AllOfClass, AtMost, heavier};
-ghost use Rattle.term_lines.specs.Questions.{IsTermQuestion};
+ghost use Rattle.std.specs.Prelude.{◌≡◌, IfOk};
+ghost use Rattle.line_generator.specs.ClassLines.{heavier};
+ghost use Rattle.line_generator.specs.Overs.{IsClassBest, IsLensBest};
 ghost use Rattle.line_generator.specs.Questions.{IsQuestion};
+ghost use Rattle.term_lines.specs.Overs.{IsTermBest};
+ghost use Rattle.term_lines.specs.Questions.{IsTermQuestion};
 
 use crate::classes::{class_lens, class_of};
+use crate::question::Question;
 use crate::sets::{sets_of, spread, whole_bids};
-use crate::spared::is_spared;
 use duty_calendar::Memory;
 use label_lattice::Steps;
-use lens_classes::Terms;
-use roster_model::{Goal, Lens, Node, Problem};
 use std::alloc::Global;
 use std::sync::ledger::Ledger;
-use term_lines::{PricedLine, best_of_terms, heaviest_of_terms};
+use term_lines::{PricedLine, TermQuestion};
 
 /// How a best line is looked for.
 #[derive(Clone, Copy, PartialEq, Eq)]
@@ -48,102 +44,66 @@ fn heavier(first: Option<PricedLine>, second: Option<PricedLine>) -> Option<Pric
 fn best_by<L: Ledger>(
     alloc: Global,
     by: By,
-    problem: &Problem,
-    member: u32,
-    terms: &Terms,
-    node: &Node,
-    lens: &Lens,
-    weights: &[i64],
+    asked: &TermQuestion<'_>,
     steps: &mut Steps<L>,
 ) -> Result<Option<PricedLine>, Memory>
-    requires asked { IsTermQuestion problem.now member node.now lens.now terms.now weights.now }
-    ensures line { IfOk result (λ answer. IfSome answer
-        (λ b. IsTermLine problem.now member node.now lens.now terms.now b.line)) }
-    ensures weight { IfOk result (λ answer. IfSome answer
-        (λ b. weight_of weights.now b.line ≡ b.weight)) }
-    ensures most { IfOk result (λ answer. IfSome answer
-        (λ b. IsMostTermWeight problem.now member node.now lens.now terms.now weights.now
-        b.weight)) }
-    ensures none { IfOk result (λ answer. IfNone answer
-        (HasNoTermLine problem.now member node.now lens.now terms.now)) }
+    requires asked { IsTermQuestion asked.now }
+    ensures best { IfOk result (IsTermBest asked.now) }
 {
     match by {
-        By::Labels => best_of_terms(alloc, problem, member, terms, node, lens, weights, steps),
-        By::Climbs => heaviest_of_terms(alloc, problem, member, terms, node, lens, weights, steps),
+        By::Labels => asked.best(alloc, steps),
+        By::Climbs => asked.heaviest(alloc, steps),
     }
 }
 
-/// The best line of the class that grants these bids.
-fn best_of_class<L: Ledger>(
-    alloc: Global,
-    by: By,
-    problem: &Problem,
-    member: u32,
-    goal: &Goal,
-    node: &Node,
-    lens: &Lens,
-    granted: u64,
-    weights: &[i64],
-    steps: &mut Steps<L>,
-) -> Result<Option<PricedLine>, Memory>
-    requires asked { IsQuestion problem.now member goal.now node.now lens.now weights.now }
-    ensures line { IfOk result (λ answer. IfSome answer
-        (λ b. IsLensLine problem.now member goal.now node.now lens.now b.line)) }
-    ensures weight { IfOk result (λ answer. IfSome answer
-        (λ b. weight_of weights.now b.line ≡ b.weight)) }
-    ensures most { IfOk result (λ answer. AllOfClass problem.now member goal.now node.now lens.now
-        weights.now (is_in granted) (AtMost answer)) }
-{
-    let Some(class) = class_of(alloc, problem, member, goal, lens, granted)? else {
-        return Ok(None);
-    };
-    best_by(
-        alloc,
-        by,
-        problem,
-        member,
-        &class.terms,
-        node,
-        &class.lens,
-        weights,
-        steps,
-    )
-}
+impl Question<'_> {
+    /// The best line of the class that grants these bids.
+    fn best_of_class<L: Ledger>(
+        &self,
+        alloc: Global,
+        by: By,
+        granted: u64,
+        steps: &mut Steps<L>,
+    ) -> Result<Option<PricedLine>, Memory>
+        requires asked { IsQuestion self.now }
+        ensures best { IfOk result (IsClassBest self.now granted) }
+    {
+        let (problem, member) = (self.problem, self.member);
+        let Some(class) = class_of(alloc, problem, member, self.goal, self.lens, granted)? else {
+            return Ok(None);
+        };
+        let asked = TermQuestion {
+            problem,
+            member,
+            terms: &class.terms,
+            node: self.node,
+            lens: &class.lens,
+            weights: self.weights,
+        };
+        best_by(alloc, by, &asked, steps)
+    }
 
-/// The best line of all classes of a lens.
-pub(crate) fn greatest_of_classes<L: Ledger>(
-    alloc: Global,
-    by: By,
-    problem: &Problem,
-    member: u32,
-    goal: &Goal,
-    node: &Node,
-    lens: &Lens,
-    weights: &[i64],
-    steps: &mut Steps<L>,
-) -> Result<Option<PricedLine>, Memory>
-    requires asked { IsQuestion problem.now member goal.now node.now lens.now weights.now }
-    ensures line { IfOk result (λ answer. IfSome answer
-        (λ b. IsLensLine problem.now member goal.now node.now lens.now b.line)) }
-    ensures weight { IfOk result (λ answer. IfSome answer
-        (λ b. weight_of weights.now b.line ≡ b.weight)) }
-    ensures most { IfOk result (λ answer. IfSome answer
-        (λ b. IsMostWeight problem.now member goal.now node.now lens.now weights.now b.weight)) }
-    ensures none { IfOk result (λ answer. IfNone answer
-        (HasNoLine problem.now member goal.now node.now lens.now)) }
-{
-    let bids = whole_bids(problem, member, lens);
-    let narrow = class_lens(alloc, problem, member, lens, 0)?;
-    let mut best: Option<PricedLine> = None;
-    for number in 0..sets_of(bids) {
-        if is_spared(problem, member, goal, lens, &narrow, bids, number) {
-            continue;
+    /// The best line of all classes of a lens.
+    pub(crate) fn greatest_of_classes<L: Ledger>(
+        &self,
+        alloc: Global,
+        by: By,
+        steps: &mut Steps<L>,
+    ) -> Result<Option<PricedLine>, Memory>
+        requires asked { IsQuestion self.now }
+        ensures best { IfOk result (IsLensBest self.now) }
+    {
+        let bids = whole_bids(self.problem, self.member, self.lens);
+        let narrow = class_lens(alloc, self.problem, self.member, self.lens, 0)?;
+        let mut best: Option<PricedLine> = None;
+        for number in 0..sets_of(bids) {
+            if self.is_spared(&narrow, bids, number) {
+                continue;
+            }
+            let granted = spread(bids, number);
+            let found = self.best_of_class(alloc, by, granted, steps)?;
+            best = heavier(best, found);
         }
-        let granted = spread(bids, number);
-        let found = best_of_class(
-            alloc, by, problem, member, goal, node, lens, granted, weights, steps,
-        )?;
-        best = heavier(best, found);
+        Ok(best)
     }
-    Ok(best)
 }

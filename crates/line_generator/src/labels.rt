@@ -9,14 +9,14 @@ ghost use Rattle.line_lens.specs.LineGraphs.{IsHourLens};
 ghost use Rattle.line_lens.specs.declared.lens_fault.LensFault.{LensFault as Why};
 
 use crate::best_fault::BestFault;
-use crate::greatest::{By, greatest_of_classes};
-use crate::plain::plain_terms;
+use crate::greatest::By;
+use crate::question::Question;
 use label_lattice::Steps;
 use line_lens::check_lens;
 use roster_model::{Goal, Lens, Node, Problem};
 use std::alloc::Global;
 use std::sync::ledger::Ledger;
-use term_lines::{PricedLine, best_of_terms};
+use term_lines::{PricedLine, TermQuestion};
 
 /// A line that passes the lens and meets goal and node, of the greatest weight, or nothing where no line passes. The
 /// pairings' weights are in the order of the pairings. Each extension of a label is one step.
@@ -57,12 +57,25 @@ pub fn best<L: Ledger>(
     if let Err(why) = check_lens(problem, member, lens) {
         return Err(BestFault::Lens(why));
     }
+    let asked = Question {
+        problem,
+        member,
+        goal,
+        node,
+        lens,
+        weights,
+    };
     if lens.whole {
-        let by = By::Labels;
-        return Ok(greatest_of_classes(
-            alloc, by, problem, member, goal, node, lens, weights, steps,
-        )?);
+        return Ok(asked.greatest_of_classes(alloc, By::Labels, steps)?);
     }
-    let terms = plain_terms(problem, member, goal, node, lens, weights);
-    Ok(best_of_terms(alloc, problem, member, &terms, node, lens, weights, steps)?)
+    let terms = asked.plain_terms();
+    let plain = TermQuestion {
+        problem,
+        member,
+        terms: &terms,
+        node,
+        lens,
+        weights,
+    };
+    Ok(plain.best(alloc, steps)?)
 }

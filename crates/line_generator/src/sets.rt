@@ -1,5 +1,5 @@
 //! Sets of bids as bits.
-ghost use Rattle.std.specs.Prelude.{◌≡◌, ◌≢◌, ◌+◌, ◌<◌, cond, ◌≤◌, ◌&&◌, ◌||◌, ◌^◌, ℕ, length, true};
+ghost use Rattle.std.specs.Prelude.{◌≡◌, ◌≢◌, ◌+◌, ◌<◌, cond, ◌≤◌, ◌&&◌, ◌||◌, ◌^◌, ℕ, length};
 ghost use Rattle.duty_calendar.specs.Minutes.{count_between};
 ghost use Rattle.roster_model.specs.Lenses.{has_trackable, has_whole, is_tracked, is_whole, is_whole_tracked};
 ghost use Rattle.lens_classes.specs.Classes.{is_in};

@@ -1,18 +1,23 @@
 //! Leaves that are tested: weights under which the lines fall short of the needs, and members without a line.
-ghost use Rattle.std.specs.Prelude.{◌≡◌, ◌<◌, ◌^◌, IfOk, IfSome, IsTrue, length};
+ghost use Rattle.std.specs.Prelude.{◌≡◌, ◌<◌, ◌^◌, IfOk, IfSome, IsTrue, Ok, OnOk, length};
 ghost use Rattle.roster_model.specs.Closing.{IsLineless};
 ghost use Rattle.roster_model.specs.Goals.{IsGoal, IsNode};
-ghost use Rattle.roster_model.specs.Lenses.{AreLenses, IsLens, IsOutweighed};
-ghost use Rattle.roster_model.specs.Weights.{AreSmallWeights, IsSmallWeight};
+ghost use Rattle.roster_model.specs.Lenses.{AreLenses, IsLens, IsLensLine, IsMostWeight, IsOutweighed};
+ghost use Rattle.roster_model.specs.Weights.{AreSmallWeights, IsSmallWeight, weight_of};
+ghost use Rattle.term_lines.specs.Overs.{IfLine};
+ghost use Rattle.term_lines.specs.declared.above.Over.TheVariants.{Nothing};
 ghost use Rattle.weight_certificates.specs.Pricing.{AreHeaviest, IsShapedHeaviest};
 
 use crate::lists::append;
 use crate::rows::{product, set_miss};
 use duty_calendar::{List, Memory};
-use line_generator::{BestFault, Over, are_small, heaviest_line_over, is_out_of_reach, line_over};
+use label_lattice::Steps;
+use line_generator::{BestFault, Over, are_small, heaviest_over, is_out_of_reach};
 use line_lens::check_lens;
 use roster_model::{Goal, Lens, Line, Node, Problem, Roster};
 use std::alloc::Global;
+use std::marker::Brand;
+use std::sync::ledger::{Blank, Ledger};
 
 /// How many steps a search for a line may take.
 const MOST_STEPS: u64 = 50_000_000;
@@ -35,6 +40,44 @@ pub(crate) fn narrowed(alloc: Global, weights: &[i64]) -> Result<List<i32>, Memo
         list.push(narrow(*weight))?;
     }
     Ok(List::from_vec(list))
+}
+
+/// A heaviest line that passes the lens and is above the bound, or that there is none; or too many steps were taken, which are
+/// counted from a blank on.
+fn over_from<L: Ledger>(
+    alloc: Global,
+    problem: &Problem,
+    member: u32,
+    goal: &Goal,
+    node: &Node,
+    lens: &Lens,
+    weights: &[i64],
+    bound: i64,
+    blank: Blank,
+) -> Result<Over, BestFault>
+    requires member { member < length problem.now.base.members }
+    requires goal { IsGoal problem.now goal.now }
+    requires node { IsNode problem.now node.now }
+    requires listed { length lens.now.windows < 2 ^ 32 }
+    requires per_pairing { length weights.now ≡ length problem.now.base.pairings }
+    requires small { AreSmallWeights weights.now }
+    requires name { blank.name ≡ L.name }
+    requires parts { blank.parts ≡ L.parts }
+    requires share { 0 < blank.parts }
+    ensures shape { OnOk result (IsLens problem.now member lens.now) }
+    ensures line { IfOk result (λ answer. IfLine answer
+        (λ b. IsLensLine problem.now member goal.now node.now lens.now b.line)) }
+    ensures weight { IfOk result (λ answer. IfLine answer
+        (λ b. weight_of weights.now b.line ≡ b.weight)) }
+    ensures most { IfOk result (λ answer. IfLine answer
+        (λ b. IsMostWeight problem.now member goal.now node.now lens.now weights.now b.weight)) }
+    ensures none { result ≡ Ok Nothing → IsMostWeight problem.now member goal.now node.now lens.now
+        weights.now bound }
+{
+    let mut steps: Steps<L> = Steps::new(blank);
+    heaviest_over(
+        alloc, problem, member, goal, node, lens, weights, bound, MOST_STEPS, &mut steps,
+    )
 }
 
 /// The heaviest line that passes the lens and is above the bound; none where there is none, or where the search takes
@@ -60,8 +103,9 @@ fn heaviest_above(
     if lens.windows.len() > 16 {
         return Ok(None);
     }
-    match heaviest_line_over(
-        alloc, problem, member, goal, node, lens, weights, bound, MOST_STEPS,
+    let blank = Blank::new(1);
+    match over_from::<Brand>(
+        alloc, problem, member, goal, node, lens, weights, bound, blank,
     ) {
         Ok(Over::Line(priced)) => Ok(Some(priced.line)),
         Ok(Over::Nothing) | Ok(Over::Limit) => Ok(None),
@@ -191,8 +235,9 @@ pub(crate) fn is_lineless(
         return Ok(true);
     }
     let weights = vec![in alloc; 0i64; problem.base.pairings.len()]?;
-    match line_over(
-        alloc, problem, member, goal, node, lens, &weights, -1, MOST_STEPS,
+    let blank = Blank::new(1);
+    match over_from::<Brand>(
+        alloc, problem, member, goal, node, lens, &weights, -1, blank,
     ) {
         Ok(Over::Nothing) => Ok(true),
         Ok(Over::Line(_)) | Ok(Over::Limit) => Ok(false),

@@ -6,7 +6,7 @@ use Rattle.graph_climbs.proofs.stages.climb_from.Given as goal
 
 abbrev pub invariant-loop-bits : goal.invariant-loop-bits
 invariant-loop-bits g l = record {
-  found : IfSome l.best (IsAbove (parts_extend g.B.Resource.extend) (parts_done g.B.Resource.done) l.graph l.over);
-  spent : l.steps + l.left ≡ l.initial.steps + l.limit;
-  within : l.left ≤ l.limit;
+  found : IfSome l.best (IsAbove (parts_extend g.B.Resource.extend) (parts_done g.B.Resource.done) l.graph l.target.over);
+  spent : l.steps + l.left ≡ l.initial.steps + l.target.limit;
+  within : l.left ≤ l.target.limit;
 }

@@ -1,20 +1,17 @@
-use Rattle.lens_classes.specs.TermLines.{HasNoTermLine, IsMostTermWeight, IsTermLine}
-use Rattle.roster_model.specs.Lenses.{HasNoLine, IsLensLine, IsMostWeight}
-use Rattle.term_lines.specs.declared.priced.PricedLine.{PricedLine}
-use Rattle.term_lines.proofs.FoundLines.{some_more, none_more}
+use Rattle.term_lines.proofs.FoundLines.{best_more}
 use Rattle.line_generator.proofs.climbs.heaviest.Goals as goal
 
 pub returns-clause-line : goal.returns-clause-line
 returns-clause-line g c =
-    some_more (λ (b : PricedLine). IsTermLine c.args.problem.now c.args.member c.args.node.now c.args.lens.now c.plain_terms-terms.result b.line) (λ (b : PricedLine). IsLensLine c.args.problem.now c.args.member c.args.goal.now c.args.node.now c.args.lens.now b.line) c.in_ok-heaviest_of_terms.field-0
-    (λ b h. (c.plain_terms-terms.ensures.same c.args.node.now b.line).1 h) c.in_ok-heaviest_of_terms.ensures.line
+    let same = c.plain_terms-terms.ensures.same c.args.node.now in
+    (best_more _ _ _ _ _ (λ line is. (same line).1 is) (λ line is. (same line).0 is) c.in_ok-heaviest.field-0 c.in_ok-heaviest.ensures.best).line
 
 pub returns-clause-most : goal.returns-clause-most
 returns-clause-most g c =
-    some_more (λ (b : PricedLine). IsMostTermWeight c.args.problem.now c.args.member c.args.node.now c.args.lens.now c.plain_terms-terms.result c.args.weights.now b.weight) (λ (b : PricedLine). IsMostWeight c.args.problem.now c.args.member c.args.goal.now c.args.node.now c.args.lens.now c.args.weights.now b.weight) c.in_ok-heaviest_of_terms.field-0
-    (λ b h line is. h line ((c.plain_terms-terms.ensures.same c.args.node.now line).0 is)) c.in_ok-heaviest_of_terms.ensures.most
+    let same = c.plain_terms-terms.ensures.same c.args.node.now in
+    (best_more _ _ _ _ _ (λ line is. (same line).1 is) (λ line is. (same line).0 is) c.in_ok-heaviest.field-0 c.in_ok-heaviest.ensures.best).most
 
 pub returns-clause-none : goal.returns-clause-none
 returns-clause-none g c =
-    none_more (HasNoTermLine c.args.problem.now c.args.member c.args.node.now c.args.lens.now c.plain_terms-terms.result) (HasNoLine c.args.problem.now c.args.member c.args.goal.now c.args.node.now c.args.lens.now) c.in_ok-heaviest_of_terms.field-0
-    (λ h line is. h line ((c.plain_terms-terms.ensures.same c.args.node.now line).0 is)) c.in_ok-heaviest_of_terms.ensures.none
+    let same = c.plain_terms-terms.ensures.same c.args.node.now in
+    (best_more _ _ _ _ _ (λ line is. (same line).1 is) (λ line is. (same line).0 is) c.in_ok-heaviest.field-0 c.in_ok-heaviest.ensures.best).none

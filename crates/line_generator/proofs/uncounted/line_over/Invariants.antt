@@ -1,4 +1,0 @@
-use Rattle.line_generator.proofs.uncounted.line_over.Given as goal
-
-abbrev pub ghosts-over_from : goal.ghosts-over_from
-ghosts-over_from a = record { name = a.blank.name; parts = a.blank.parts }
