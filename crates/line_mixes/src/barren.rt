@@ -1,12 +1,10 @@
-//! Members that are known to have no line above a bound.
+//! Members that are known to have no line above a bound: under these prices (dual prices) none has a negative reduced cost.
 
-use crate::profiles::{bid_asked, floor_of};
+use crate::limits::MOST_BARREN;
 use duty_calendar::{Copied, Memory};
+use flat_search::{bid_asked, floor_of};
 use roster_model::{Goal, Lens};
 use std::alloc::Global;
-
-/// How much is remembered of a member.
-const MOST_KNOWN: usize = 8;
 
 /// What is known of a member under some weights: no line is above this, by a lens, where a goal asks at least so much.
 #[derive(Drop)]
@@ -75,7 +73,7 @@ impl AllBarren {
         let Some(own) = self.members.get_mut(member) else {
             return Ok(());
         };
-        if own.len() >= MOST_KNOWN {
+        if own.len() >= MOST_BARREN {
             own.remove(0);
         }
         own.push(Barren {

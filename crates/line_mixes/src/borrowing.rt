@@ -1,15 +1,13 @@
 //! Lines of other members: one that was found for another may serve a member, and costs no search.
 
 use crate::kept::Kept;
-use crate::mix::weigh;
-use crate::pricing::Care;
+use crate::limits::MOST_OFFERED;
 use crate::recent::KeptLine;
+use crate::shares::weigh;
 use duty_calendar::Memory;
+use flat_search::Care;
 use roster_model::{Goal, Problem};
 use std::alloc::Global;
-
-/// How many lines of others are tested for a member in one go.
-const MOST_OFFERED: usize = 6;
 
 /// A line of another member, and what it weighs.
 #[derive(Clone, Copy)]

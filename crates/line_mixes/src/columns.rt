@@ -1,15 +1,12 @@
-//! Which kept lines a relaxation may mix.
+//! Which kept lines a relaxation may mix (the columns of the restricted master).
 
-use crate::board::Row;
 use crate::kept::Kept;
-use crate::mix::{Share, weigh};
-use crate::pricing::Care;
+use crate::limits::MOST_COLUMNS;
+use crate::shares::{Share, weigh};
 use duty_calendar::Memory;
+use flat_search::{Care, Row};
 use roster_model::{Goal, Problem};
 use std::alloc::Global;
-
-/// How many lines of a member are mixed, the newest ones.
-const MOST_COLUMNS: usize = 2000;
 
 /// Numbers of kept lines of each member.
 #[derive(Drop)]

@@ -1,16 +1,15 @@
-//! Lines that are kept for each member, with what is known of each.
+//! Lines that are kept for each member (a column pool), with what is known of each.
 
 use crate::barren::AllBarren;
-use crate::ladder::{first_lens, first_lenses};
 use crate::listed::Listed;
-use crate::pairings::PairingSet;
-use crate::prepared::Courses;
-use crate::profiles::{Profile, broken, is_member, known_of, number};
 use crate::program::Program;
 use crate::recent::{KeptLine, Recent};
 use column_pool::Pool;
 use duty_calendar::{Copied, List, Memory};
-use line_generator::are_known;
+use flat_search::{
+    Courses, Found, PairingSet, Pricing, Profile, are_known, broken, first_lens, first_lenses,
+    flat_over, is_member, known_of, look_at, number,
+};
 use line_legality::Illegal;
 use roster_model::{Lens, Line, Problem};
 use std::alloc::Global;
@@ -46,6 +45,14 @@ fn offer(pool: &mut Pool, problem: &Problem, member: u32, line: Line) -> Result<
     }
 }
 
+/// What is known of a member's lines.
+fn known_in(profiles: &[Vec<Profile>], member: usize) -> &[Profile] {
+    match profiles.get(member) {
+        Some(known) => known,
+        None => &[],
+    }
+}
+
 impl Kept {
     /// No lines, and the first lenses.
     pub fn new(alloc: Global, problem: &Problem) -> Result<Kept, Memory> {
@@ -71,14 +78,21 @@ impl Kept {
         })
     }
 
-    /// The courses of flat searches.
-    pub(crate) fn courses(&self) -> &Courses {
-        &self.courses
+    /// Whether the member's lines may be looked for by flat searches.
+    pub fn is_flat(&self, member: usize) -> bool {
+        self.courses.has_sheet(member)
     }
 
-    /// The courses of flat searches, to be changed.
-    pub(crate) fn courses_mut(&mut self) -> &mut Courses {
-        &mut self.courses
+    /// What a flat search for a line of a member finds.
+    pub fn flat_over(
+        &mut self,
+        alloc: Global,
+        problem: &Problem,
+        asked: &Pricing,
+        lens: &Lens,
+    ) -> Result<Found, Memory> {
+        let known = known_in(&self.profiles, asked.member);
+        flat_over(alloc, problem, &mut self.courses, known, asked, lens)
     }
 
     /// The legal lines of all members that were kept lately.
@@ -94,20 +108,12 @@ impl Kept {
         member: usize,
         line: &Line,
     ) -> Result<Profile, Memory> {
-        let pairings = PairingSet::of(line.pairings());
-        if let Some(place) = self.place_of(member, &pairings) {
-            if let Some(profile) = self.profile(member, place) {
-                return Ok(*profile);
-            }
-        }
-        let owner = number(member);
-        let mut profile = known_of(problem, owner, line, pairings);
-        profile.broken = broken(alloc, problem, owner, line)?;
-        Ok(profile)
+        let known = known_in(&self.profiles, member);
+        look_at(alloc, problem, member, known, line)
     }
 
     /// Keeps a line of which this is known, if it is not kept, and says its number; none where there is no room for it.
-    pub(crate) fn keep_known(
+    pub fn keep_known(
         &mut self,
         problem: &Problem,
         member: usize,
@@ -137,10 +143,7 @@ impl Kept {
 
     /// How many lines of a member are kept.
     pub fn len(&self, member: usize) -> usize {
-        match self.profiles.get(member) {
-            Some(profiles) => profiles.len(),
-            None => 0,
-        }
+        known_in(&self.profiles, member).len()
     }
 
     /// What is known of a line.

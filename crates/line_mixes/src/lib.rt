@@ -1,46 +1,28 @@
-//! Lines that are found for the members of a node, what they weigh at given prices, and mixes of them that come near to
-//! the needs. Nothing is promised of them.
+//! Lines that are kept for the members of a problem (the columns of a restricted master), and mixes of them that come near to the
+//! needs: by a linear program, or by shares that are evened out. Nothing is promised of them.
 #![tactic(auto)]
 
 mod barren;
-mod blocks;
-mod board;
 mod borrowing;
 mod columns;
-mod course;
-mod demands;
-mod flat_pricing;
-mod flat_search;
-mod free_hours;
-mod hours;
+mod evening;
 mod kept;
-mod labels;
-mod ladder;
+mod leaf;
+mod limits;
 mod listed;
 mod mix;
 mod notes;
-mod pairings;
-mod places;
-mod prepared;
-mod pricing;
-mod profiles;
 mod program;
 mod recent;
-mod sheets;
+mod shares;
 mod simplex;
-mod sizes;
-mod tables;
-mod tested;
-mod trail;
+mod steps;
 
-pub use board::{Board, Row};
 pub use borrowing::Borrowed;
 pub use columns::Columns;
+pub use evening::{Ended, improve};
 pub use kept::Kept;
-pub use ladder::{first_lens, first_lenses, is_first};
-pub use mix::{Mix, Share, WHOLE, needed};
-pub use pairings::PairingSet;
-pub use pricing::{Care, Priced, price, price_afresh, price_briefly};
-pub use profiles::{Profile, is_granted, is_member, number};
+pub use leaf::{Bounded, Leaf};
+pub use mix::Mix;
 pub use program::Program;
-pub use sizes::{is_large, rows};
+pub use shares::{Share, WHOLE, needed};

@@ -1,14 +1,12 @@
-//! What is noted beside the kept lines from root to root: members whose searches are dear, whose turn it is, the last program, bounds
-//! that no line is above, and weights that closed roots.
+//! What is noted beside the kept lines from root to root: members whose searches are dear, whose turn it is, the last program,
+//! bounds that no line is above, and weights that closed roots.
 
 use crate::kept::Kept;
+use crate::limits::MOST_LEAVES;
 use crate::program::Program;
 use duty_calendar::Memory;
 use roster_model::{Goal, Lens};
 use std::alloc::Global;
-
-/// How many weights that closed roots are remembered.
-const MOST_LEAVES: usize = 8;
 
 impl Kept {
     /// Whether the member's searches are held to be dear.
@@ -73,7 +71,7 @@ impl Kept {
     }
 
     /// Remembers that at a root of the goal the member has no line above this, by the lens.
-    pub(crate) fn keep_barren(
+    pub fn keep_barren(
         &mut self,
         alloc: Global,
         member: usize,

@@ -1,22 +1,16 @@
-//! Programs: shares of lines that miss the needs by least, and what pairings are worth there. Their numbers are near ones.
+//! Programs (the restricted master, as a linear program): shares of lines that miss the needs by least, and what pairings are
+//! worth there (their dual prices). Their numbers are near ones.
 
 use crate::columns::Columns;
 use crate::kept::Kept;
-use crate::mix::{Mix, Share, WHOLE};
-use crate::profiles::number;
+use crate::limits::{COST_OF_GONE, JITTER, NO_SHARE, OLD};
+use crate::mix::Mix;
+use crate::shares::{Share, WHOLE};
 use duty_calendar::Memory;
+use flat_search::number;
 use roster_model::Problem;
 use std::alloc::Global;
 use std::num::{nearest_i64_to_f64, saturating_f64_to_i64};
-
-/// What a line costs that is not to be had any more, where a miss costs 1.
-const DEAR: f64 = 3.0;
-/// Needs are off by multiples of this, so that few programs have several answers.
-const JITTER: f64 = 0.000_000_02;
-/// A share below this counts as none.
-const NO_SHARE: f64 = 0.000_001;
-/// After so many changes a program is begun anew, since errors add up.
-const OLD: u32 = 20_000;
 
 /// What has a row of a program: the share of a member's line, by the line's number; how much a pairing lacks, or has too
 /// much; or the share of a line that is not to be had any more.
@@ -46,7 +40,7 @@ fn cost(basic: Basic) -> f64 {
     match basic {
         Basic::Line(_, _) => 0.0,
         Basic::Lack(_) | Basic::Excess(_) => 1.0,
-        Basic::Gone => DEAR,
+        Basic::Gone => COST_OF_GONE,
     }
 }
 

@@ -1,10 +1,8 @@
 //! Legal lines that were found lately for some member, which others may fly too.
 
+use crate::limits::MOST_RECENT;
 use duty_calendar::Memory;
 use std::alloc::Global;
-
-/// How many lines are remembered.
-const MOST_RECENT: usize = 400;
 
 /// A kept line: whose it is, and its number.
 #[derive(Clone, Copy, PartialEq, Eq)]

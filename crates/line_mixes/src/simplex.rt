@@ -1,18 +1,12 @@
-//! How programs are solved: what makes their misses less comes in, one after the other.
+//! How programs are solved (by the simplex method): what makes their misses less comes in, one after the other.
 
 use crate::columns::Columns;
 use crate::kept::Kept;
+use crate::limits::{NO_CHANGE, NO_GAIN, OFF};
 use crate::program::{Basic, Program, subtract};
 use duty_calendar::Memory;
 use std::alloc::Global;
 use std::mem::replace;
-
-/// A gain, or a change, below this counts as none.
-const NO_GAIN: f64 = 0.000_000_1;
-/// By how much an amount may be off.
-const OFF: f64 = 0.000_000_001;
-/// A change below this changes nothing.
-const NO_CHANGE: f64 = 0.000_000_000_01;
 
 /// What comes in, and by how much less is missed for one of it.
 #[derive(Clone, Copy)]

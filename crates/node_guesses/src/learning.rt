@@ -1,14 +1,13 @@
 //! What a guide learns from the award of a problem that differs by little.
 
 use crate::guide::MixGuide;
+use crate::probes::gathered;
 use duty_calendar::{Copied, Memory};
-use line_mixes::{Board, Care, Columns, Kept, Mix, Program, rows};
-use roster_guesses::{CHANGES, MOST_ROWS, program_of};
+use flat_search::{Board, Care, rows};
+use line_mixes::{Columns, Kept, Mix, Program};
+use roster_guesses::{CHANGES, MIXED, MOST_ROWS, program_of};
 use roster_model::{Awarded, Goal, Item, Line, Problem, Proof, Roster};
 use std::alloc::Global;
-
-/// How much may be missed by kept lines that count as mixed, of one line.
-const LITTLE: f64 = 0.01;
 
 /// The weights of the first leaf of the proof that has some; none where no leaf has any.
 fn weights_of(alloc: Global, proof: &Proof) -> Result<Vec<i64>, Memory> {
@@ -53,23 +52,6 @@ fn mix_with(
     Ok(Mix::of_program(alloc, problem, kept, &columns, &program, weights)?)
 }
 
-/// The kept lines of each member that may serve the goal; none where a member has none.
-fn serving(
-    alloc: Global,
-    problem: &Problem,
-    kept: &Kept,
-    goal: &Goal,
-) -> Result<Option<Columns>, Memory> {
-    let board = Board::empty(alloc, problem.base.members.len())?;
-    let mut columns = Columns::new(alloc);
-    for member in 0..problem.base.members.len() {
-        if !columns.append(alloc, kept, goal, member, &board.row(member), Care::Fine)? {
-            return Ok(None);
-        }
-    }
-    Ok(Some(columns))
-}
-
 /// Whether kept lines alone can be mixed for the goal so that hardly anything is missed. The program is kept, since the next
 /// one begins where it ends.
 pub(crate) fn is_mixed(
@@ -79,12 +61,13 @@ pub(crate) fn is_mixed(
     goal: &Goal,
     warm: Option<&Mix>,
 ) -> Result<bool, Memory> {
-    let Some(columns) = serving(alloc, problem, kept, goal)? else {
+    let board = Board::empty(alloc, problem.base.members.len())?;
+    let Some(columns) = gathered(alloc, problem, kept, goal, &board)? else {
         return Ok(false);
     };
     let mut program = program_of(alloc, problem, kept, &columns, warm)?;
-    program.solve(alloc, kept, &columns, CHANGES, LITTLE)?;
-    let is_solved = program.misses() <= LITTLE;
+    program.solve(alloc, kept, &columns, CHANGES, MIXED)?;
+    let is_solved = program.misses() <= MIXED;
     kept.keep_program(program);
     Ok(is_solved)
 }

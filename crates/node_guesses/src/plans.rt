@@ -1,4 +1,5 @@
-//! Trees that close a goal by lenses that look at pairings one by one, where a few splits do.
+//! Trees that close a goal by lenses that look at pairings one by one, where a few splits do (branch and bound, ahead of the
+//! search).
 ghost use Rattle.std.specs.Prelude.{◌≡◌};
 ghost use Rattle.roster_model.specs.Goals.{IsGoal};
 
@@ -7,8 +8,9 @@ use crate::guide::MixGuide;
 use crate::pairs::branch_pair;
 use closer_guide::Guess;
 use duty_calendar::Memory;
-use line_mixes::{Board, Care, Kept, Mix, Priced, number, price};
-use roster_guesses::{Effort, PLANNED, Relaxed, SPLITS, plainer, relax};
+use flat_search::{Board, Care, Pricing, number};
+use line_mixes::{Kept, Mix};
+use roster_guesses::{Effort, PLANNED, Priced, Relaxed, SPLITS, plainer, price, relax};
 use roster_model::{Decision, Goal, Node, Problem};
 use std::alloc::Global;
 
@@ -122,8 +124,14 @@ fn is_misfit(
         return Ok(false);
     }
     let weights = vec![in alloc; 0i64; pairings]?;
-    let care = Care::Fine;
-    match price(alloc, problem, kept, member, goal, &row, &weights, -1, care)? {
+    let asked = Pricing {
+        member,
+        goal,
+        row: &row,
+        weights: &weights,
+        over: -1,
+    };
+    match price(alloc, problem, kept, asked, Care::Fine)? {
         Priced::Line(place, _) => match kept.profile(member, place) {
             Some(profile) => Ok(!profile.serves(goal, member)),
             None => Ok(false),

@@ -1,20 +1,14 @@
-//! What is missed at both sides of a pair, by programs over the lines that are kept.
+//! What is missed at both sides of a pair, by programs over the lines that are kept (strong branching).
 
 use duty_calendar::Memory;
-use line_mixes::{Board, Care, Columns, Kept, Mix, Program};
-use roster_guesses::PROBE_CHANGES;
+use flat_search::{Board, Care};
+use line_mixes::{Columns, Kept, Mix, Program};
+use roster_guesses::{PROBE_CHANGES, PROBE_END, PROBE_MOST};
 use roster_model::{Goal, Problem};
 use std::alloc::Global;
 
-/// What is missed where a member has no line that is kept.
-const ALL: f64 = 1.0;
-/// More than this counts as so much: either closes the side.
-const MOST: f64 = 0.05;
-/// What even a side that misses nothing counts.
-const LITTLE: f64 = 0.0005;
-
-/// The kept lines of all members that obey the board; none where a member has none.
-fn gathered(
+/// The kept lines of all members that may serve the goal and obey the board; none where a member has none.
+pub(crate) fn gathered(
     alloc: Global,
     problem: &Problem,
     kept: &Kept,
@@ -50,7 +44,7 @@ fn side(
     Ok(side)
 }
 
-/// How much the kept lines that obey the board miss.
+/// How much the kept lines that obey the board miss: one line where a member has none.
 fn missed(
     alloc: Global,
     problem: &Problem,
@@ -61,7 +55,7 @@ fn missed(
     last: &Program,
 ) -> Result<f64, Memory> {
     let Some(columns) = gathered(alloc, problem, kept, goal, board)? else {
-        return Ok(ALL);
+        return Ok(1.0);
     };
     let mut program = if last.may_go_on() {
         last.copy(alloc)?
@@ -69,7 +63,7 @@ fn missed(
         Program::begun(alloc, problem, kept, &columns, Some(mix))?
     };
     program.go_on(alloc, &columns)?;
-    program.solve(alloc, kept, &columns, PROBE_CHANGES, LITTLE)?;
+    program.solve(alloc, kept, &columns, PROBE_CHANGES, PROBE_END)?;
     Ok(program.misses())
 }
 
@@ -89,5 +83,5 @@ pub(crate) fn gain(
     let without = side(alloc, board, member, pairing, false)?;
     let one = missed(alloc, problem, kept, goal, &with, mix, last)?;
     let other = missed(alloc, problem, kept, goal, &without, mix, last)?;
-    Ok((one.min(MOST) + LITTLE) * (other.min(MOST) + LITTLE))
+    Ok((one.min(PROBE_MOST) + PROBE_END) * (other.min(PROBE_MOST) + PROBE_END))
 }

@@ -2,11 +2,12 @@
 ghost use Rattle.std.specs.Prelude.{◌≡◌};
 ghost use Rattle.roster_model.specs.Goals.{IsGoal};
 
-use crate::leaf::{Bounded, Leaf};
 use crate::limits::DEAR;
-use crate::testing::{Tried, borrowed, test_member};
+use crate::pricing::{Priced, price, price_briefly};
+use crate::testing::{Tried, borrowed, test_member, test_roughly};
 use duty_calendar::Memory;
-use line_mixes::{Board, Care, Columns, Kept, Priced, number, price_briefly};
+use flat_search::{Board, Care, Pricing, number};
+use line_mixes::{Bounded, Columns, Kept, Leaf};
 use roster_model::{Goal, Problem};
 use std::alloc::Global;
 
@@ -31,10 +32,14 @@ fn test_briefly(
     if let Some(line) = borrowed(alloc, problem, kept, goal, tried, member, most)? {
         return leaf.found(columns, member, line.place, line.weight);
     }
-    let (weights, care) = (tried.weights, tried.care);
-    match price_briefly(
-        alloc, problem, kept, member, goal, &row, weights, most, care,
-    )? {
+    let asked = Pricing {
+        member,
+        goal,
+        row: &row,
+        weights: tried.weights,
+        over: most,
+    };
+    match price_briefly(alloc, problem, kept, asked, tried.care)? {
         Priced::Line(place, weight) => leaf.found(columns, member, place, weight)?,
         Priced::Unknown => kept.hold_dear(member, DEAR),
         Priced::Nothing(lens) => leaf.set(member, lens, most),
@@ -76,10 +81,14 @@ fn settle_member(
 {
     let row = tried.board.row(member);
     let over = leaf.over(member);
-    let (weights, care) = (tried.weights, tried.care);
-    match price_briefly(
-        alloc, problem, kept, member, goal, &row, weights, over, care,
-    )? {
+    let asked = Pricing {
+        member,
+        goal,
+        row: &row,
+        weights: tried.weights,
+        over,
+    };
+    match price_briefly(alloc, problem, kept, asked, tried.care)? {
         Priced::Line(place, weight) => leaf.found(columns, member, place, weight)?,
         Priced::Unknown => {}
         Priced::Nothing(lens) => {
@@ -168,9 +177,39 @@ fn test_dear(
     Ok(())
 }
 
+/// Looks closely for lines of these members that weigh more than their columns, and tells whether one is found, which joins these.
+fn found_closely(
+    alloc: Global,
+    problem: &Problem,
+    kept: &mut Kept,
+    goal: &Goal,
+    columns: &mut Columns,
+    tried: Tried,
+    members: &[usize],
+) -> Result<bool, Memory>
+    requires goal { IsGoal problem.now goal.now }
+{
+    let before = columns.count();
+    for member in members {
+        let row = tried.board.row(*member);
+        let asked = Pricing {
+            member: *member,
+            goal,
+            row: &row,
+            weights: tried.weights,
+            over: columns.most(kept, *member, tried.weights),
+        };
+        if let Priced::Line(place, _weight) = price(alloc, problem, kept, asked, tried.care)? {
+            columns.add(*member, place)?;
+        }
+    }
+    Ok(columns.count() > before)
+}
+
 /// Whether the weights close the node: all members that are not dear are searched; then, as long as the lines that are known
 /// weigh less than the needs, those of whom lines were found once more, and the dear ones. Lines that are found join the
-/// columns.
+/// columns. In a large month none is searched closely as long as rough searches find lines, or close ones of the members for whom
+/// these ran out of steps.
 pub(crate) fn test_all(
     alloc: Global,
     problem: &Problem,
@@ -183,15 +222,19 @@ pub(crate) fn test_all(
 ) -> Result<Option<Bounded>, Memory>
     requires goal { IsGoal problem.now goal.now }
 {
-    let Some(begun) = Leaf::begun(alloc, problem, kept, columns, &weights)? else {
-        return Ok(None);
-    };
-    let mut leaf = begun;
     let tried = Tried {
         board,
         weights: &weights,
         care,
     };
+    let rough = test_roughly(alloc, problem, kept, goal, columns, tried, true)?;
+    if rough.is_open || found_closely(alloc, problem, kept, goal, columns, tried, &rough.lost)? {
+        return Ok(None);
+    }
+    let Some(begun) = Leaf::begun(alloc, problem, kept, columns, &weights)? else {
+        return Ok(None);
+    };
+    let mut leaf = begun;
     test_others(alloc, problem, kept, goal, columns, tried, &mut leaf)?;
     settle(alloc, problem, kept, goal, columns, tried, &mut leaf)?;
     test_dear(alloc, problem, kept, goal, columns, tried, &mut leaf)?;

@@ -1,14 +1,14 @@
-//! Dives: lines of great share are fixed, one after the other, until the rest is a roster.
+//! Dives (a diving heuristic): lines of great share are fixed, one after the other, until the rest is a roster.
 ghost use Rattle.std.specs.Prelude.{◌≡◌};
 ghost use Rattle.roster_model.specs.Goals.{IsGoal};
 
-use crate::chance::Chance;
 use crate::effort::Effort;
-use crate::finder::Finder;
+use crate::finder::{Finder, Task};
 use crate::relaxing::Relaxed;
-use crate::wholes::whole_of;
 use duty_calendar::Memory;
-use line_mixes::{Board, Kept, Mix, Row, Share, WHOLE, number};
+use flat_search::{Board, Row, number};
+use line_mixes::{Kept, Mix, Share, WHOLE};
+use roster_choices::{Chance, whole_of};
 use roster_model::{Goal, Problem, Roster};
 use std::alloc::Global;
 
@@ -144,9 +144,12 @@ impl Descent {
         requires goal { IsGoal problem.now goal.now }
     {
         let board = self.fixed(alloc, problem, &finder.kept, picks)?;
-        let effort = Effort::fixed(finder.kind(problem));
-        let warm = Some(&self.mix);
-        let relaxed = finder.relaxed(alloc, problem, goal, &board, warm, effort)?;
+        let task = Task {
+            goal,
+            board: &board,
+            effort: Effort::fixed(finder.kind(problem)),
+        };
+        let relaxed = finder.relaxed(alloc, problem, task, Some(&self.mix))?;
         let Relaxed::Open(mix) = relaxed else {
             return Ok(false);
         };
@@ -188,21 +191,20 @@ fn is_nearly_whole(share: Share) -> bool {
 }
 
 impl Finder {
-    /// A roster that meets the goal and obeys the board, from a mix on; none after so many failures.
+    /// A roster that meets the goal and obeys the board, from a mix on; none after as many failures as the effort allows.
     pub(crate) fn dive(
         &mut self,
         alloc: Global,
         problem: &Problem,
-        goal: &Goal,
-        board: &Board,
+        task: Task,
         mix: &Mix,
-        failures: usize,
     ) -> Result<Option<Roster>, Memory>
-        requires goal { IsGoal problem.now goal.now }
+        requires goal { IsGoal problem.now task.goal.now }
     {
+        let (goal, failures) = (task.goal, task.effort.failures);
         let members = problem.base.members.len();
         let mut descent = Descent {
-            board: board.copy(alloc)?,
+            board: task.board.copy(alloc)?,
             mix: mix.copy(alloc)?,
             is_fixed: vec![in alloc; false; members]?,
             failed: Vec::new(alloc),

@@ -5,14 +5,13 @@
 //! dive fixes lines of a mix, one after the other. A repair frees some members of a known roster (a large neighbourhood). A
 //! choice takes kept lines alone (an exact cover).
 
-use line_mixes::Care;
+use flat_search::Care;
 
 /// What is spent on a goal at a node: on its relaxation, and where that leaves it open, on rosters.
 #[derive(Clone, Copy)]
 pub struct Effort {
-    /// Prices that are tested.
+    /// Prices that are tested, and how lines are looked for.
     pub mixes: u32,
-    /// How lines are looked for.
     pub care: Care,
     /// Steps of a first choice of kept lines: a step is a look at one line, some 0.05 us.
     pub first_steps: usize,
@@ -20,6 +19,9 @@ pub struct Effort {
     pub repairs: usize,
     /// Relaxations that these may take together: each takes 2 to 20 ms in a large month.
     pub relaxations: u32,
+    /// Exchanges of a line for a better one, each of one to four searches of 0.1 to 0.3 ms: before repairs, and after them.
+    pub exchanges: usize,
+    pub last_exchanges: usize,
     /// Dives, and how often each may fail.
     pub dives: u32,
     pub failures: usize,
@@ -51,6 +53,8 @@ const ROOT: Effort = Effort {
     first_steps: 0,
     repairs: 0,
     relaxations: u32::MAX,
+    exchanges: 0,
+    last_exchanges: 0,
     dives: 0,
     failures: 0,
     last_steps: 0,
@@ -104,11 +108,13 @@ const TESTED: Efforts = Efforts {
         first_steps: 200_000,
         repairs: 1_000,
         relaxations: 15,
+        exchanges: 500,
+        last_exchanges: 1_000,
         ..ROOT
     },
 };
 
-/// A root that is to be reached.
+/// A root that is to be reached; in a large month roughly: at the last of 30 places 0.5 s for nothing, in place of 5.
 const WANTED: Efforts = Efforts {
     plain: LONG,
     tight: Effort {
@@ -118,8 +124,10 @@ const WANTED: Efforts = Efforts {
     large: Effort {
         repairs: 1_000,
         relaxations: 30,
+        exchanges: 500,
+        last_exchanges: 1_000,
         last_steps: 200_000,
-        ..NODE
+        ..ROUGH
     },
 };
 
@@ -138,11 +146,23 @@ const BEGUN: Efforts = Efforts {
         first_steps: 200_000,
         repairs: 1_000,
         relaxations: 60,
+        exchanges: 500,
+        last_exchanges: 1_000,
         dives: 3,
         failures: 6,
         last_steps: 200_000,
         ..NODE
     },
+};
+
+/// In a large month of which no roster is known, before the empty node is looked at closely. Exchanges find one in 0.1 to 0.5 s at 30
+/// to 40 members.
+const UNKNOWN: Effort = Effort {
+    first_steps: 200_000,
+    exchanges: 20_000,
+    dives: 3,
+    failures: 6,
+    ..ROUGH
 };
 
 /// Another node of a search; dives are for some of them.
@@ -153,6 +173,7 @@ const DEEPER: Efforts = Efforts {
         ..DOWN
     },
     large: Effort {
+        exchanges: 100,
         last_steps: 50_000,
         ..NODE
     },
@@ -211,11 +232,21 @@ impl Effort {
         TESTED.of(kind)
     }
 
+    /// At a root whose level is looked for above one at which no roster was found.
+    pub fn above(kind: Kind) -> Effort {
+        match kind {
+            Kind::Large => ROOT,
+            _ => TESTED.of(kind),
+        }
+    }
+
     /// At a root that is looked at roughly.
     pub fn rough(kind: Kind) -> Effort {
         Effort {
             care: Care::Rough,
             first_steps: 0,
+            exchanges: 0,
+            last_exchanges: 0,
             ..TESTED.of(kind)
         }
     }
@@ -227,6 +258,11 @@ impl Effort {
             dives: if may_dive { effort.dives } else { 0 },
             ..effort
         }
+    }
+
+    /// Where no roster is known.
+    pub(crate) fn unknown() -> Effort {
+        UNKNOWN
     }
 
     /// At the empty node of a search, which may ask for a bid.

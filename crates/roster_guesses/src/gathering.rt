@@ -1,11 +1,13 @@
-//! The columns of a relaxation: kept lines of each member that may serve.
+//! The columns with which a relaxation begins (of the restricted master): kept lines of each member that may serve.
 ghost use Rattle.std.specs.Prelude.{◌≡◌};
 ghost use Rattle.roster_model.specs.Goals.{IsGoal};
 
 use crate::limits::COLUMNS;
-use crate::ranking::{Ranked, Ranking, leave_best};
+use crate::pricing::{Priced, price_afresh};
 use duty_calendar::Memory;
-use line_mixes::{Board, Care, Columns, Kept, Mix, Priced, Row, is_large, number, price_afresh};
+use flat_search::{Board, Care, Pricing, Row, is_large, number};
+use line_mixes::{Columns, Kept, Mix};
+use roster_choices::{Ranked, Ranking, leave_best};
 use roster_model::{Goal, Lens, Problem};
 use std::alloc::Global;
 
@@ -31,7 +33,35 @@ fn first_line(
 {
     let weights = vec![in alloc; 0i64; problem.base.pairings.len()]?;
     let row = board.row(member);
-    price_afresh(alloc, problem, kept, member, goal, &row, &weights, -1, care)
+    let asked = Pricing {
+        member,
+        goal,
+        row: &row,
+        weights: &weights,
+        over: -1,
+    };
+    price_afresh(alloc, problem, kept, asked, care)
+}
+
+/// Looks for a first line of the member; closely, where a rough search doesn't tell at a root of a large month.
+fn first_line_of(
+    alloc: Global,
+    problem: &Problem,
+    kept: &mut Kept,
+    goal: &Goal,
+    board: &Board,
+    member: usize,
+    care: Care,
+) -> Result<Priced, Memory>
+    requires goal { IsGoal problem.now goal.now }
+{
+    match first_line(alloc, problem, kept, goal, board, member, care)? {
+        Priced::Line(place, weight) => Ok(Priced::Line(place, weight)),
+        _ if care == Care::Rough && is_large(problem) && board.row(member).is_empty() => {
+            first_line(alloc, problem, kept, goal, board, member, Care::Fine)
+        }
+        other => Ok(other),
+    }
 }
 
 /// The lines of all members that may be mixed.
@@ -50,7 +80,7 @@ pub(crate) fn gather(
         if columns.append(alloc, kept, goal, member, &board.row(member), care)? {
             continue;
         }
-        match first_line(alloc, problem, kept, goal, board, member, care)? {
+        match first_line_of(alloc, problem, kept, goal, board, member, care)? {
             Priced::Line(place, _weight) => columns.add(member, place)?,
             Priced::Nothing(lens) => return Ok(Gathered::NoLine(number(member), lens)),
             Priced::Unknown => return Ok(Gathered::Unknown),

@@ -1,12 +1,12 @@
-//! Weights that closed other roots, tested once more.
+//! Weights (dual prices) that closed other roots, tested once more.
 ghost use Rattle.std.specs.Prelude.{◌≡◌};
 ghost use Rattle.roster_model.specs.Goals.{IsGoal};
 
-use crate::leaf::{Bounded, Leaf};
 use crate::limits::SEARCHED;
 use crate::testing::{Tried, test_member};
 use duty_calendar::Memory;
-use line_mixes::{Board, Care, Columns, Kept, number};
+use flat_search::{Board, Care, number};
+use line_mixes::{Bounded, Columns, Kept, Leaf};
 use roster_model::{Goal, Problem};
 use std::alloc::Global;
 

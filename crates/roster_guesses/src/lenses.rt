@@ -1,11 +1,12 @@
-//! Lenses that see no more than they have to.
+//! Lenses (relaxations of the pricing problem) that see no more than they have to.
 ghost use Rattle.std.specs.Prelude.{◌≡◌};
 ghost use Rattle.roster_model.specs.Goals.{IsGoal};
 
-use crate::leaf::Bounded;
+use crate::pricing::{Priced, price_afresh};
 use crate::testing::Tried;
 use duty_calendar::Memory;
-use line_mixes::{Board, Care, Kept, Priced, is_first, needed, number, price_afresh};
+use flat_search::{Board, Care, Pricing, is_first, number};
+use line_mixes::{Bounded, Kept, needed};
 use roster_model::{Goal, Lens, Problem};
 use std::alloc::Global;
 
@@ -22,11 +23,14 @@ fn lens_again(
     requires goal { IsGoal problem.now goal.now }
 {
     let row = tried.board.row(member);
-    let (weights, care) = (tried.weights, tried.care);
-    let priced = price_afresh(
-        alloc, problem, kept, member, goal, &row, weights, over, care,
-    )?;
-    match priced {
+    let asked = Pricing {
+        member,
+        goal,
+        row: &row,
+        weights: tried.weights,
+        over,
+    };
+    match price_afresh(alloc, problem, kept, asked, tried.care)? {
         Priced::Nothing(lens) => Ok(Some(lens)),
         Priced::Line(_, _) | Priced::Unknown => Ok(None),
     }

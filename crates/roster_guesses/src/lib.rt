@@ -1,37 +1,30 @@
-//! Guesses that are made of mixes of lines: weights, and rosters. Nothing is promised of them.
+//! Guesses that are made of lines of members above bounds: prices that close a node, and rosters. Nothing is promised of them.
 #![tactic(auto)]
 
-mod chance;
-mod chosen;
-mod covering;
-mod crewing;
 mod dear;
 mod diving;
 mod effort;
-mod evening;
+mod exchanging;
 mod finder;
-mod freeing;
+mod flat_pricing;
 mod gathering;
-mod known;
-mod leaf;
 mod leaves;
 mod lenses;
 mod limits;
 mod mastering;
-mod ranking;
+mod pricing;
 mod relaxing;
-mod remainder;
 mod repairing;
+mod tested;
 mod testing;
-mod wholes;
 
 pub use effort::{Effort, Kind};
-pub use finder::{Finder, Solved};
-pub use known::{AllKnown, Known};
-pub use leaf::Bounded;
+pub use finder::{Finder, Solved, Task};
 pub use lenses::{plainer, plainer_without_line};
 pub use limits::{
-    AGAIN, CHANGES, LEVELS, MOST_ROWS, PLACES, PLANNED, PROBE_CHANGES, PROBES, SPLITS,
+    AGAIN, CHANGES, LEVELS, MIXED, MOST_ROWS, NO_PART, PLACES, PLANNED, PROBE_CHANGES, PROBE_END,
+    PROBE_MOST, PROBES, SPLITS,
 };
 pub use mastering::{is_worth_while, program_of};
+pub use pricing::{Priced, price};
 pub use relaxing::{Relaxed, relax};

@@ -1,46 +1,30 @@
 //! Bounds of single guesses, each with its unit and what it was measured by; effort.rt has what is spent on a goal. No other file
-//! of this crate or of node_guesses has one.
+//! of this crate or of node_guesses has one; those of mixes and of choices of kept lines stand in the crates of these.
+
+/// How many steps a brief search for a line may take, and how often a lens is made to look at more.
+pub(crate) const BRIEF: u64 = 5_000;
+
+pub(crate) const RUNGS: u32 = 24;
 
 /// How many free members a repair begins with, and by how many they may become more, before it begins with few again.
 pub(crate) const FEWEST_FREE: usize = 4;
 
 pub(crate) const MORE_FREE: usize = 13;
-/// How often chance is asked for free members.
-pub(crate) const DRAWS: u32 = 200;
 
 /// How many columns a member has in a relaxation of a large month: going through all of 1,200 a member once takes 0.5 ms.
 pub(crate) const COLUMNS: usize = 200;
 
-/// How many lines of a member a choice looks at: the newest, and in a large month the heaviest by the mix's prices. Of 2,000 a
-/// member a choice took 0.3 to 2 s.
-pub(crate) const NEWEST: usize = 2_000;
-
-pub(crate) const HEAVIEST: usize = 100;
-/// How often a choice takes a line.
-pub(crate) const TURNS: u32 = 1_000_000;
-/// How many steps a test of a line counts in a choice.
-pub(crate) const TEST_STEPS: usize = 100;
-
-/// How many rosters are known.
-pub(crate) const KNOWN: usize = 256;
 /// How many members may be searched for prices that closed another root.
 pub(crate) const SEARCHED: usize = 3;
 /// For how many searches a member is held to be dear.
 pub(crate) const DEAR: u32 = 4;
 
-/// How often the members are gone through for one mix; of so many times the first looks at all columns; and after how many the
-/// prices of the mix are looked at.
-pub(crate) const SWEEPS: u32 = 200;
-
-pub(crate) const FULL: u32 = 8;
-
-pub(crate) const FIRST_LOOK: u32 = 8;
 /// How many mixes are tested in a large month before a program is worked on: of 143 roots at 40 members all but 5 were decided by
 /// these.
 pub(crate) const FIRST_MIXES: u32 = 8;
 
-/// After how many mixes of which a search ran out of steps a rough relaxation of a large month is given up: such searches took four
-/// fifths of the time of repairs at 40 members.
+/// After how many mixes of which a search ran out of steps a rough relaxation of a large month is given up: such searches took
+/// four fifths of the time of repairs at 40 members.
 pub(crate) const LOST: u32 = 3;
 
 /// Up to how many rows a program is worth its time even where searches are short.
@@ -51,8 +35,10 @@ pub const MOST_ROWS: usize = 300;
 pub(crate) const ALL_ROWS: usize = 600;
 /// How often something may come into a program in one go.
 pub const CHANGES: u32 = 20_000;
-/// How much may be missed by a program that counts as solved, of one line.
+/// How much may be missed by a program that counts as solved, of one line; and by kept lines alone that count as mixed.
 pub(crate) const MISSED: f64 = 0.003;
+
+pub const MIXED: f64 = 0.01;
 
 /// How many roots are tested for the levels of a place, and for the places of a bid.
 pub const LEVELS: u32 = 40;
@@ -64,8 +50,27 @@ pub const AGAIN: u32 = 8;
 pub const PLANNED: usize = 25;
 
 pub const SPLITS: usize = 12;
+/// Where a node is split, a share of 65,536 that is no more than this counts as none, and one that lacks no more counts as whole.
+pub const NO_PART: i64 = 655;
 /// How many pairs are looked at by programs where a node is split (strong branching), and how often something may come into each
-/// of these programs.
+/// of these programs. Of what is missed there, of one line: more counts as so much, since either closes the side; what is no
+/// more than so little ends the program, and is what even a side that misses nothing counts.
 pub const PROBES: usize = 12;
 
 pub const PROBE_CHANGES: u32 = 400;
+
+pub const PROBE_MOST: f64 = 0.05;
+
+pub const PROBE_END: f64 = 0.0005;
+
+/// What a pairing is worth in exchanges at first; by how much more after each turn of all members in which it is missed or flown too
+/// often, and at most; up to how much chance adds; and how many searches look for a better line of a member.
+pub(crate) const WORTH: i64 = 1_024;
+
+pub(crate) const DEARER: i64 = 256;
+
+pub(crate) const DEAREST: i64 = 65_536;
+
+pub(crate) const LUCK: usize = 64;
+
+pub(crate) const BETTER: u32 = 4;

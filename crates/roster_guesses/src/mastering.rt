@@ -5,11 +5,11 @@ ghost use Rattle.roster_model.specs.Goals.{IsGoal};
 
 use crate::dear::test_all;
 use crate::effort::Effort;
-use crate::leaf::Bounded;
 use crate::limits::{ALL_ROWS, CHANGES, FEW_ROWS, MISSED, MOST_ROWS};
 use crate::relaxing::Relaxed;
 use duty_calendar::Memory;
-use line_mixes::{Board, Care, Columns, Kept, Mix, Program, WHOLE, rows};
+use flat_search::{Board, Care, rows};
+use line_mixes::{Bounded, Columns, Kept, Mix, Program, WHOLE};
 use roster_model::{Goal, Problem};
 use std::alloc::Global;
 use std::num::{nearest_i64_to_f64, saturating_f64_to_i64};

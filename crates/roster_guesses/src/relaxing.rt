@@ -3,15 +3,14 @@ ghost use Rattle.std.specs.Prelude.{◌≡◌};
 ghost use Rattle.roster_model.specs.Goals.{IsGoal};
 
 use crate::effort::Effort;
-use crate::evening::{Ended, improve};
 use crate::gathering::{Gathered, gather, thinned};
-use crate::leaf::Bounded;
 use crate::leaves::test_leaves;
 use crate::limits::{FIRST_MIXES, LOST};
 use crate::mastering::{is_wanted, mastered};
 use crate::testing::{Outcome, test};
 use duty_calendar::Memory;
-use line_mixes::{Board, Care, Columns, Kept, Mix, is_large};
+use flat_search::{Board, Care, is_large};
+use line_mixes::{Bounded, Columns, Ended, Kept, Mix, improve};
 use roster_model::{Goal, Lens, Problem};
 use std::alloc::Global;
 

@@ -4,12 +4,12 @@ ghost use Rattle.std.specs.Prelude.{◌≡◌};
 ghost use Rattle.roster_model.specs.Goals.{IsGoal};
 
 use crate::effort::{Effort, Kind};
-use crate::finder::Finder;
-use crate::freeing::{Begun, Free};
+use crate::finder::{Finder, Task};
 use crate::limits::{FEWEST_FREE, MORE_FREE};
 use crate::relaxing::Relaxed;
 use duty_calendar::{Copied, Memory};
 use line_mixes::{Kept, Mix};
+use roster_choices::{Begun, Free};
 use roster_model::{Goal, Line, Problem, Roster};
 use std::alloc::Global;
 
@@ -30,7 +30,7 @@ fn focus_of(goal: &Goal) -> Option<usize> {
 }
 
 /// The floors of the goal that a roster is to reach which is repaired.
-fn reached(goal: &Goal) -> &[u32] {
+pub(crate) fn reached(goal: &Goal) -> &[u32] {
     let floors = goal.floors.as_slice();
     if goal.grant.is_some() {
         return floors;
@@ -76,22 +76,25 @@ impl Finder {
     {
         let free = Free::chosen(alloc, &self.kept, begun, size, &mut self.chance)?;
         let board = free.board(alloc, problem, begun.base)?;
-        let effort = Effort::freed(self.kind(problem));
-        let relaxed = self.relaxed(alloc, problem, goal, &board, None, effort)?;
-        let Relaxed::Open(mix) = relaxed else {
+        let task = Task {
+            goal,
+            board: &board,
+            effort: Effort::freed(self.kind(problem)),
+        };
+        let Relaxed::Open(mix) = self.relaxed(alloc, problem, task, None)? else {
             return Ok(Attempt::Closed);
         };
-        Ok(
-            match self.inner_roster(alloc, problem, goal, &board, &mix, effort)? {
-                Some(roster) => Attempt::Roster(roster),
-                None => Attempt::Open,
-            },
-        )
+        Ok(match self.inner_roster(alloc, problem, task, &mix)? {
+            Some(roster) => Attempt::Roster(roster),
+            None => Attempt::Open,
+        })
     }
 
     /// Whether a roster is known that may be repaired.
-    pub(crate) fn may_repair(&self, goal: &Goal, effort: Effort) -> bool {
-        effort.repairs > 0 && focus_of(goal).is_some() && self.known.best(reached(goal)).is_some()
+    pub(crate) fn may_repair(&self, task: Task) -> bool {
+        task.effort.repairs > 0
+            && focus_of(task.goal).is_some()
+            && self.known.best(reached(task.goal)).is_some()
     }
 
     /// A roster that meets the goal and differs in the lines of a few members from the best that is known, the focus among them;
@@ -101,13 +104,13 @@ impl Finder {
         &mut self,
         alloc: Global,
         problem: &Problem,
-        goal: &Goal,
+        task: Task,
         mix: &Mix,
-        effort: Effort,
     ) -> Result<Option<Roster>, Memory>
-        requires goal { IsGoal problem.now goal.now }
+        requires goal { IsGoal problem.now task.goal.now }
     {
-        if effort.repairs == 0 {
+        let goal = task.goal;
+        if task.effort.repairs == 0 {
             return Ok(None);
         }
         let (Some(focus), Some(known)) = (focus_of(goal), self.known.best(reached(goal))) else {
@@ -117,7 +120,7 @@ impl Finder {
         let base = roster.as_slice();
         keep_all(alloc, problem, &mut self.kept, base)?;
         let begun = Begun { base, focus, mix };
-        self.repaired_from(alloc, problem, goal, &begun, effort)
+        self.repaired_from(alloc, problem, goal, &begun, task.effort)
     }
 
     /// A roster by repairs of this one.

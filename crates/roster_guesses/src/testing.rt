@@ -3,10 +3,11 @@
 ghost use Rattle.std.specs.Prelude.{◌≡◌};
 ghost use Rattle.roster_model.specs.Goals.{IsGoal};
 
-use crate::leaf::{Bounded, Leaf};
 use crate::limits::DEAR;
+use crate::pricing::{Priced, price, price_briefly};
 use duty_calendar::Memory;
-use line_mixes::{Board, Borrowed, Care, Columns, Kept, Priced, is_large, price, price_briefly};
+use flat_search::{Board, Care, Pricing, is_large};
+use line_mixes::{Borrowed, Bounded, Columns, Kept, Leaf};
 use roster_model::{Goal, Problem};
 use std::alloc::Global;
 
@@ -32,19 +33,20 @@ fn price_noting(
     requires goal { IsGoal problem.now goal.now }
 {
     let row = tried.board.row(member);
-    let (weights, care) = (tried.weights, tried.care);
-    if care != Care::Rough && !kept.has_dear() {
-        let priced = price_briefly(
-            alloc, problem, kept, member, goal, &row, weights, over, care,
-        )?;
-        match priced {
+    let asked = Pricing {
+        member,
+        goal,
+        row: &row,
+        weights: tried.weights,
+        over,
+    };
+    if tried.care != Care::Rough && !kept.has_dear() {
+        match price_briefly(alloc, problem, kept, asked, tried.care)? {
             Priced::Unknown => kept.hold_dear(member, DEAR),
             priced => return Ok(priced),
         }
     }
-    price(
-        alloc, problem, kept, member, goal, &row, weights, over, care,
-    )
+    price(alloc, problem, kept, asked, tried.care)
 }
 
 /// Whether the goal asks for nothing of the member.
@@ -68,7 +70,7 @@ pub(crate) fn borrowed(
     member: usize,
     over: i64,
 ) -> Result<Option<Borrowed>, Memory> {
-    let may_borrow = tried.care == Care::Fine
+    let may_borrow = tried.care != Care::Plain
         && is_large(problem)
         && tried.board.row(member).is_empty()
         && is_unasked(goal, member);
@@ -121,8 +123,84 @@ pub(crate) enum Outcome {
     Lost,
 }
 
+/// What rough searches tell of weights at a node of a large month: that these are not worth a close look, since lines were found, or
+/// the known ones weigh as much as the needs; and for which members they ran out of steps.
+#[derive(Drop)]
+pub(crate) struct Rough {
+    pub is_open: bool,
+    pub lost: Vec<usize>,
+}
+
+/// Rough searches of the members one after the other, of all, or as long as too little is found. Lines that they find join the
+/// columns. Where the month is not large, or no close search was long so far, there are none, and nothing is known.
+pub(crate) fn test_roughly(
+    alloc: Global,
+    problem: &Problem,
+    kept: &mut Kept,
+    goal: &Goal,
+    columns: &mut Columns,
+    tried: Tried,
+    all: bool,
+) -> Result<Rough, Memory>
+    requires goal { IsGoal problem.now goal.now }
+{
+    let mut rough = Rough {
+        is_open: false,
+        lost: Vec::new(alloc),
+    };
+    if tried.care != Care::Fine || !is_large(problem) || !kept.has_dear() {
+        return Ok(rough);
+    }
+    let Some(begun) = Leaf::begun(alloc, problem, kept, columns, tried.weights)? else {
+        rough.is_open = true;
+        return Ok(rough);
+    };
+    let mut leaf = begun;
+    let before = columns.count();
+    let care = Care::Rough;
+    let members = problem.base.members.len();
+    let turn = kept.next_turn(members);
+    for step in 0..members {
+        let member = turn.wrapping_add(step).checked_rem(members).unwrap_or(0);
+        if leaf.is_reached() && !all {
+            rough.is_open = true;
+            return Ok(rough);
+        }
+        leaf.is_lost = false;
+        let tried = Tried { care, ..tried };
+        test_member(
+            alloc, problem, kept, goal, columns, tried, member, &mut leaf,
+        )?;
+        if leaf.is_lost {
+            rough.lost.push(member)?;
+        }
+    }
+    rough.is_open = leaf.is_reached() || columns.count() > before;
+    Ok(rough)
+}
+
+/// All members in turn, the first ones first.
+fn in_turn(
+    alloc: Global,
+    problem: &Problem,
+    kept: &mut Kept,
+    first: &[usize],
+) -> Result<Vec<usize>, Memory> {
+    let members = problem.base.members.len();
+    let turn = kept.next_turn(members);
+    let mut order = Vec::from_slice(alloc, first)?;
+    for step in 0..members {
+        let member = turn.wrapping_add(step).checked_rem(members).unwrap_or(0);
+        if !first.contains(&member) {
+            order.push(member)?;
+        }
+    }
+    Ok(order)
+}
+
 /// Whether the weights close the node: the columns first, and searches for lines only where these weigh less than the
-/// needs. Lines that are found join the columns.
+/// needs. Lines that are found join the columns. In a large month rough searches come first, since most weights close nothing,
+/// and then those of the members for whom these ran out of steps; others only where nothing is found.
 pub(crate) fn test(
     alloc: Global,
     problem: &Problem,
@@ -135,15 +213,25 @@ pub(crate) fn test(
 ) -> Result<Outcome, Memory>
     requires goal { IsGoal problem.now goal.now }
 {
+    let tried = Tried {
+        board,
+        weights: &weights,
+        care,
+    };
+    let rough = test_roughly(alloc, problem, kept, goal, columns, tried, false)?;
+    if rough.is_open {
+        return Ok(Outcome::Open);
+    }
     let Some(begun) = Leaf::begun(alloc, problem, kept, columns, &weights)? else {
         return Ok(Outcome::Open);
     };
     let mut leaf = begun;
-    let members = problem.base.members.len();
-    let turn = kept.next_turn(members);
-    for step in 0..members {
-        let member = turn.wrapping_add(step).checked_rem(members).unwrap_or(0);
-        if leaf.is_reached() {
+    let before = columns.count();
+    let lost = rough.lost.len();
+    let order = in_turn(alloc, problem, kept, &rough.lost)?;
+    for (at, member) in order.iter().enumerate() {
+        let is_found = at == lost && columns.count() > before;
+        if leaf.is_reached() || is_found {
             return Ok(Outcome::Open);
         }
         let tried = Tried {
@@ -152,7 +240,7 @@ pub(crate) fn test(
             care,
         };
         test_member(
-            alloc, problem, kept, goal, columns, tried, member, &mut leaf,
+            alloc, problem, kept, goal, columns, tried, *member, &mut leaf,
         )?;
     }
     if leaf.is_lost {

@@ -1,13 +1,16 @@
-//! Lines above a bound of a member whose decisions are a row; what such a search asks for is tested here.
-ghost use Rattle.std.specs.Prelude.{◌≡◌, ◌<◌, IfOk, length};
+//! Lines above a bound of a member whose decisions are a row (exact pricing); what such a search asks for is tested here.
+ghost use Rattle.std.specs.Prelude.{◌≡◌, ◌<◌, ◌^◌, IfOk, length};
 ghost use Rattle.roster_model.specs.Goals.{IsGoal, IsNode};
+ghost use Rattle.roster_model.specs.Weights.{AreSmallWeights};
 
-use crate::board::Row;
-use crate::profiles::is_member;
 use duty_calendar::Memory;
-use line_generator::{BestFault, Over, are_small, line_over};
-use roster_model::{BidRef, Decision, Goal, Lens, Node, NodeFault, Problem};
+use flat_search::{Pricing, Row, is_member, number};
+use label_lattice::Steps;
+use line_generator::{BestFault, Over, are_small, best_over};
+use roster_model::{Decision, Lens, Node, NodeFault, Problem};
 use std::alloc::Global;
+use std::marker::Brand;
+use std::sync::ledger::{Blank, Ledger};
 
 /// Decides a pairing of the row, if it is one.
 fn decide(
@@ -50,20 +53,52 @@ fn row_node(alloc: Global, problem: &Problem, member: u32, row: &Row) -> Result<
     Ok(node)
 }
 
+/// A line of the member above the bound that passes the lens, meets the goal and obeys the node; the steps are counted from a blank
+/// on.
+fn over_from<L: Ledger>(
+    alloc: Global,
+    problem: &Problem,
+    asked: Pricing,
+    member: u32,
+    node: &Node,
+    lens: &Lens,
+    limit: u64,
+    blank: Blank,
+) -> Result<Over, BestFault>
+    requires goal { IsGoal problem.now asked.goal.now }
+    requires member { member < length problem.now.base.members }
+    requires node { IsNode problem.now node.now }
+    requires listed { length lens.now.windows < 2 ^ 32 }
+    requires per_pairing { length asked.weights.now ≡ length problem.now.base.pairings }
+    requires small { AreSmallWeights asked.weights.now }
+    requires name { blank.name ≡ L.name }
+    requires parts { blank.parts ≡ L.parts }
+    requires share { 0 < blank.parts }
+{
+    let Pricing {
+        goal,
+        weights,
+        over,
+        ..
+    } = asked;
+    let mut steps: Steps<L> = Steps::new(blank);
+    best_over(
+        alloc, problem, member, goal, node, lens, weights, over, limit, &mut steps,
+    )
+}
+
 /// A line of the member above the bound that passes the lens, meets the goal and obeys the row.
 pub(crate) fn row_over(
     alloc: Global,
     problem: &Problem,
-    member: u32,
-    goal: &Goal,
-    row: &Row,
+    asked: Pricing,
     lens: &Lens,
-    weights: &[i64],
-    over: i64,
     limit: u64,
 ) -> Result<Over, Memory>
-    requires goal { IsGoal problem.now goal.now }
+    requires goal { IsGoal problem.now asked.goal.now }
 {
+    let member = number(asked.member);
+    let weights = asked.weights;
     let is_told = is_member(problem, member)
         && weights.len() == problem.base.pairings.len()
         && lens.windows.len() <= 16
@@ -71,10 +106,9 @@ pub(crate) fn row_over(
     if !is_told {
         return Ok(Over::Limit);
     }
-    let node = row_node(alloc, problem, member, row)?;
-    match line_over(
-        alloc, problem, member, goal, &node, lens, weights, over, limit,
-    ) {
+    let node = row_node(alloc, problem, member, asked.row)?;
+    let blank = Blank::new(1);
+    match over_from::<Brand>(alloc, problem, asked, member, &node, lens, limit, blank) {
         Ok(answer) => Ok(answer),
         Err(BestFault::NoMemory) => Err(Memory::NoMemory),
         Err(BestFault::Lens(_why)) => Ok(Over::Limit),

@@ -4,7 +4,8 @@ use crate::limits::{HEAVIEST, NEWEST};
 use crate::ranking::{Ranked, Ranking, leave_best};
 use crate::wholes::append;
 use duty_calendar::{List, Memory};
-use line_mixes::{Board, Kept, Mix, PairingSet, Row, is_large};
+use flat_search::{Board, PairingSet, Row, is_large};
+use line_mixes::{Kept, Mix};
 use roster_model::{Goal, Problem, Roster};
 use std::alloc::Global;
 

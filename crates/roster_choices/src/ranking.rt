@@ -4,14 +4,14 @@ use line_mixes::{Kept, Mix};
 
 /// A mix, and its prices of pairings.
 #[derive(Clone, Copy)]
-pub(crate) struct Ranking<'a> {
+pub struct Ranking<'a> {
     pub mix: &'a Mix,
     pub weights: &'a [i64],
 }
 
 /// The number of a line, its share, and what it weighs.
 #[derive(Clone, Copy)]
-pub(crate) struct Ranked {
+pub struct Ranked {
     pub place: usize,
     pub share: i64,
     pub weight: i64,
@@ -40,7 +40,7 @@ fn weigh(pairings: &[u32], weights: &[i64]) -> i64 {
 
 impl Ranking<'_> {
     /// How good a line of the member is.
-    pub(crate) fn rank(&self, kept: &Kept, member: usize, place: usize) -> Ranked {
+    pub fn rank(&self, kept: &Kept, member: usize, place: usize) -> Ranked {
         Ranked {
             place,
             share: share_of(self.mix, member, place),
@@ -50,7 +50,7 @@ impl Ranking<'_> {
 }
 
 /// Leaves the best of these lines, so many: those of great share first, then the heavy ones.
-pub(crate) fn leave_best(lines: &mut Vec<Ranked>, most: usize) {
+pub fn leave_best(lines: &mut Vec<Ranked>, most: usize) {
     if lines.len() > most {
         lines.sort_unstable_by_key(|line| {
             (

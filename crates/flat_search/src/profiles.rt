@@ -1,13 +1,12 @@
 //! What is known of a line of a member: its pairings, the bids that it grants, and the rule that it breaks.
-ghost use Rattle.std.specs.Prelude.{◌≡◌, ◌<◌, IsTrue, length};
+ghost use Rattle.std.specs.Prelude.{◌≡◌, ◌<◌, All, IsTrue, length};
 ghost use Rattle.roster_model.specs.Scores.{bids_of};
 
+use crate::care::Care;
 use crate::ladder::{is_of_line, is_trackable};
 use crate::pairings::PairingSet;
-use crate::pricing::Care;
 use bid_score::granted;
 use duty_calendar::Memory;
-use line_generator::are_known;
 use line_legality::{Illegal, legal};
 use roster_model::{Bid, Goal, Line, Problem};
 use std::alloc::Global;
@@ -46,8 +45,16 @@ pub fn is_member(problem: &Problem, member: u32) -> bool
     (member as usize) < problem.base.members.len()
 }
 
+/// Whether all pairings of a line are of the problem.
+pub fn are_known(problem: &Problem, line: &[u32]) -> bool
+    ensures known { IsTrue result → All (λ p. p < length problem.now.base.pairings) line.now }
+{
+    let count = problem.base.pairings.len();
+    line.iter().all(|pairing| (*pairing as usize) < count)
+}
+
 /// The rule that the line breaks, if any.
-pub(crate) fn broken(
+pub fn broken(
     alloc: Global,
     problem: &Problem,
     member: u32,
@@ -64,12 +71,7 @@ pub(crate) fn broken(
 }
 
 /// What is known of the line but for the rule that it breaks.
-pub(crate) fn known_of(
-    problem: &Problem,
-    member: u32,
-    line: &Line,
-    pairings: PairingSet,
-) -> Profile {
+pub fn known_of(problem: &Problem, member: u32, line: &Line, pairings: PairingSet) -> Profile {
     let mut profile = Profile {
         pairings,
         grants: Granted::nothing(),
@@ -97,6 +99,24 @@ pub(crate) fn known_of(
         }
     }
     profile
+}
+
+/// What is known of a line of the member, of some of whose lines this is known.
+pub fn look_at(
+    alloc: Global,
+    problem: &Problem,
+    member: usize,
+    known: &[Profile],
+    line: &Line,
+) -> Result<Profile, Memory> {
+    let pairings = PairingSet::of(line.pairings());
+    if let Some(own) = known.iter().find(|own| own.pairings == pairings) {
+        return Ok(*own);
+    }
+    let owner = number(member);
+    let mut profile = known_of(problem, owner, line, pairings);
+    profile.broken = broken(alloc, problem, owner, line)?;
+    Ok(profile)
 }
 
 /// The bit of a bid.
@@ -157,7 +177,7 @@ impl Profile {
 }
 
 /// The member's floor, or 0.
-pub(crate) fn floor_of(goal: &Goal, member: usize) -> u32 {
+pub fn floor_of(goal: &Goal, member: usize) -> u32 {
     match goal.floors.as_slice().get(member) {
         Some(floor) => *floor,
         None => 0,
@@ -165,7 +185,7 @@ pub(crate) fn floor_of(goal: &Goal, member: usize) -> u32 {
 }
 
 /// The bit of the goal's bid, where that is the member's.
-pub(crate) fn bid_asked(goal: &Goal, member: usize) -> u64 {
+pub fn bid_asked(goal: &Goal, member: usize) -> u64 {
     match goal.grant {
         Some(bid) => {
             if bid.member as usize == member {

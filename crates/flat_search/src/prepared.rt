@@ -50,14 +50,14 @@ impl Prepared {
 
 /// The sheets of all members, and the courses of their last searches; nothing where the month is not large.
 #[derive(Drop)]
-pub(crate) struct Courses {
+pub struct Courses {
     sheets: Vec<Sheet>,
     prepared: Vec<Option<Prepared>>,
 }
 
 impl Courses {
     /// The sheets of the members.
-    pub(crate) fn new(alloc: Global, problem: &Problem) -> Result<Courses, Memory> {
+    pub fn new(alloc: Global, problem: &Problem) -> Result<Courses, Memory> {
         let sheets = if is_large(problem) {
             Sheet::all(alloc, problem)?
         } else {
@@ -68,6 +68,11 @@ impl Courses {
             prepared.push(None)?;
         }
         Ok(Courses { sheets, prepared })
+    }
+
+    /// Whether the member has a sheet: the month is large.
+    pub fn has_sheet(&self, member: usize) -> bool {
+        self.sheets.get(member).is_some()
     }
 
     /// The sheet of a member; none where the month is not large.

@@ -2,7 +2,8 @@
 
 use crate::chosen::Choice;
 use duty_calendar::Memory;
-use line_mixes::{Kept, PairingSet};
+use flat_search::PairingSet;
+use line_mixes::Kept;
 use roster_model::Problem;
 use std::alloc::Global;
 

@@ -1,40 +1,47 @@
-//! How a mix is brought nearer to the needs, sweep by sweep.
+//! How a mix is brought nearer to the needs, sweep by sweep (a solution of the restricted master, member by member, without a
+//! program).
 
+use crate::columns::Columns;
+use crate::kept::Kept;
 use crate::limits::{FIRST_LOOK, FULL, SWEEPS};
+use crate::mix::Mix;
+use crate::shares::needed;
+use crate::steps::Step;
 use duty_calendar::Memory;
-use line_mixes::{Care, Columns, Kept, Mix, needed};
+use flat_search::Care;
 use roster_model::Problem;
 use std::alloc::Global;
 
 /// How the improving of a mix ended: its misses are small, the columns weigh less than the needs, no step is left, or
 /// there were steps enough.
 #[derive(Clone, Copy, PartialEq, Eq)]
-pub(crate) enum Ended {
+pub enum Ended {
     Even,
     Outweighed,
     Stuck,
     Tired,
 }
 
-/// One step for each member. Says by how much the least lines are above the needs together, and whether share was
-/// moved.
+/// One step for each member, all taken together.
 fn sweep(
     problem: &Problem,
     kept: &Kept,
     columns: &Columns,
     mix: &mut Mix,
     all: bool,
-) -> Result<(i64, bool), Memory> {
-    let mut sum: i64 = 0;
-    let mut is_moved = false;
+) -> Result<Step, Memory> {
+    let mut sum = Step {
+        below: 0,
+        is_moved: false,
+    };
     for member in 0..problem.base.members.len() {
-        let (least, moved) = mix.step(kept, columns, member, all)?;
-        sum = sum.wrapping_add(least);
-        if moved {
-            is_moved = true;
+        let step = mix.step(kept, columns, member, all)?;
+        sum.below = sum.below.wrapping_add(step.below);
+        if step.is_moved {
+            sum.is_moved = true;
         }
     }
-    Ok((sum, is_moved))
+    Ok(sum)
 }
 
 /// Whether the columns weigh less than the needs under the weights of the mix.
@@ -50,7 +57,7 @@ fn is_outweighed(
 }
 
 /// Brings the mix nearer to the needs. Every eighth sweep looks at all columns, the others at those with a share.
-pub(crate) fn improve(
+pub fn improve(
     alloc: Global,
     problem: &Problem,
     kept: &Kept,
@@ -60,18 +67,18 @@ pub(crate) fn improve(
 ) -> Result<Ended, Memory> {
     for turn in 0..SWEEPS {
         let all = turn % FULL == 0;
-        let (least, is_moved) = sweep(problem, kept, columns, mix, all)?;
+        let step = sweep(problem, kept, columns, mix, all)?;
         if mix.is_even(care.little()) {
             return Ok(Ended::Even);
         }
         let may_close = all
             && turn >= FIRST_LOOK
-            && least > needed(problem, mix.misses())
+            && step.below > needed(problem, mix.misses())
             && is_outweighed(alloc, problem, kept, columns, mix)?;
         if may_close {
             return Ok(Ended::Outweighed);
         }
-        if all && !is_moved {
+        if all && !step.is_moved {
             return Ok(Ended::Stuck);
         }
     }

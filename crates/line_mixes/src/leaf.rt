@@ -1,8 +1,11 @@
 //! A leaf that grows member by member: prices of pairings under which the lines of all members may weigh less than the needs,
 //! so that they close a node (a dual bound).
 
+use crate::columns::Columns;
+use crate::kept::Kept;
+use crate::shares::needed;
 use duty_calendar::{List, Memory};
-use line_mixes::{Columns, Kept, first_lenses, needed, number};
+use flat_search::{first_lenses, number};
 use roster_model::{Lens, Problem};
 use std::alloc::Global;
 use std::mem::replace;
@@ -29,14 +32,14 @@ struct Balance {
 /// What no line of a member is above, by its lens, begins with its columns. The members that have risen are those of whom a
 /// line was found; it is lost where a search ran out of steps.
 #[derive(Drop)]
-pub(crate) struct Leaf {
+pub struct Leaf {
     lenses: List<Lens>,
     bounds: Vec<i64>,
     overs: Vec<i64>,
     risen: Vec<usize>,
     balance: Balance,
-    pub(crate) is_closing: bool,
-    pub(crate) is_lost: bool,
+    pub is_closing: bool,
+    pub is_lost: bool,
 }
 
 /// For each member a bound that just its heaviest columns are above.
@@ -81,7 +84,7 @@ impl Balance {
 
 impl Leaf {
     /// The first lenses, and the columns' weights as bounds; none where these weigh no less than the needs.
-    pub(crate) fn begun(
+    pub fn begun(
         alloc: Global,
         problem: &Problem,
         kept: &Kept,
@@ -109,27 +112,27 @@ impl Leaf {
     }
 
     /// Whether the lines that are known weigh no less than the needs.
-    pub(crate) fn is_reached(&self) -> bool {
+    pub fn is_reached(&self) -> bool {
         self.balance.sum >= self.balance.needed
     }
 
     /// Shares what may be weighed above what is known among so many members.
-    pub(crate) fn share(&mut self, members: u32) {
+    pub fn share(&mut self, members: u32) {
         self.balance.share(members);
     }
 
     /// A member has its slack.
-    pub(crate) fn spend(&mut self) {
+    pub fn spend(&mut self) {
         self.balance.sum = self.balance.sum.wrapping_add(self.balance.slack);
     }
 
     /// What the member's lines may weigh: what the heaviest known one does, and a member's slack.
-    pub(crate) fn over(&self, member: usize) -> i64 {
+    pub fn over(&self, member: usize) -> i64 {
         self.most(member).wrapping_add(self.balance.slack)
     }
 
     /// It is known that the member has no line above this, by the lens.
-    pub(crate) fn allow(&mut self, member: usize, lens: Lens, over: i64) {
+    pub fn allow(&mut self, member: usize, lens: Lens, over: i64) {
         let most = self.most(member);
         let more = over.wrapping_sub(most).max(0);
         self.balance.sum = self.balance.sum.wrapping_add(more);
@@ -137,12 +140,12 @@ impl Leaf {
     }
 
     /// Hands out the members that have risen.
-    pub(crate) fn take_risen(&mut self, alloc: Global) -> Vec<usize> {
+    pub fn take_risen(&mut self, alloc: Global) -> Vec<usize> {
         replace(&mut self.risen, Vec::new(alloc))
     }
 
     /// The member has no line above this, by the lens.
-    pub(crate) fn set(&mut self, member: usize, lens: Lens, over: i64) {
+    pub fn set(&mut self, member: usize, lens: Lens, over: i64) {
         if member < self.lenses.len() {
             *self.lenses.at_mut(member) = lens;
         }
@@ -152,7 +155,7 @@ impl Leaf {
     }
 
     /// A line of the member was found, which joins the columns where it is above these, and is the heaviest known from then on.
-    pub(crate) fn found(
+    pub fn found(
         &mut self,
         columns: &mut Columns,
         member: usize,
@@ -178,7 +181,7 @@ impl Leaf {
     }
 
     /// What the heaviest known line of the member weighs.
-    pub(crate) fn most(&self, member: usize) -> i64 {
+    pub fn most(&self, member: usize) -> i64 {
         match self.bounds.get(member) {
             Some(bound) => bound.wrapping_add(1),
             None => 0,
@@ -186,7 +189,7 @@ impl Leaf {
     }
 
     /// The leaf under these weights, if it closes the node.
-    pub(crate) fn closed(self, weights: Vec<i64>) -> Option<Bounded> {
+    pub fn closed(self, weights: Vec<i64>) -> Option<Bounded> {
         if !self.is_closing {
             return None;
         }

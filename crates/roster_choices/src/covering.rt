@@ -1,11 +1,12 @@
-//! Rosters of kept lines: lines are chosen one after the other, those of the pairing or member that has the fewest first, and
-//! of the last two members one flies what is left.
+//! Rosters of kept lines (exact covers): lines are chosen one after the other, those of the pairing or member that has the
+//! fewest first, and of the last two members one flies what is left.
 
 use crate::chosen::{Choice, choices, roster_of};
 use crate::crewing::{Crewing, scarce};
 use crate::limits::TURNS;
 use duty_calendar::Memory;
-use line_mixes::{Board, Kept, Mix};
+use flat_search::Board;
+use line_mixes::{Kept, Mix};
 use roster_model::{Goal, Problem, Roster};
 use std::alloc::Global;
 
@@ -131,7 +132,7 @@ fn numbers(alloc: Global, count: usize) -> Result<Vec<usize>, Memory> {
 
 /// A roster that meets the goal and obeys the board, of lines that are kept but for one: those of greatest share in the mix
 /// are tried first. None where so many steps do not suffice.
-pub(crate) fn cover(
+pub fn cover(
     alloc: Global,
     problem: &Problem,
     kept: &mut Kept,

@@ -1,5 +1,5 @@
-//! How large a month is, and how much is spent on guesses in a large one. All numbers here were measured on made months of
-//! 30 to 60 members.
+//! How large a month is, how much is spent on one search for a line, and what lenses look at. All numbers of large months were
+//! measured on made ones of 30 to 60 members.
 
 use roster_model::Problem;
 
@@ -53,3 +53,21 @@ pub(crate) const MOST_TESTS: u32 = 40;
 
 /// With how many windows of a lens a search begins at most, and how many a flat search counts: labels that count more are dear.
 pub(crate) const WINDOWS: usize = 4;
+
+/// How many windows a lens may look at.
+pub(crate) const MOST_WINDOWS: usize = 16;
+
+/// How many bids that only a whole line decides a lens may track.
+pub(crate) const MOST_WHOLE: u32 = 6;
+
+/// How many steps a search may take where its answer is to close a node, and how many in guesses at rosters.
+pub(crate) const DEEP: u64 = 1_000_000;
+
+pub(crate) const SHALLOW: u64 = 20_000;
+/// What counts as no miss of a mix, of 65,536 that are a line: where it is to close a node, and in guesses at rosters.
+pub(crate) const LITTLE: i64 = 256;
+
+pub(crate) const LITTLE_ROUGHLY: i64 = 2_048;
+
+/// How often what a floor leaves open is narrowed: what is barred or flown may decide more.
+pub(crate) const NARROWED: u32 = 4;

@@ -1,16 +1,17 @@
-//! Which members a repair frees: the focus, who holds the pairings that a mix gives it, and who holds those that a mix gives
-//! these.
+//! Which members a repair frees (the neighbourhood): the focus, who holds the pairings that a mix gives it, and who holds those
+//! that a mix gives these.
 
 use crate::chance::Chance;
 use crate::limits::DRAWS;
 use duty_calendar::Memory;
-use line_mixes::{Board, Kept, Mix, PairingSet, Row, number};
+use flat_search::{Board, PairingSet, Row, number};
+use line_mixes::{Kept, Mix};
 use roster_model::{Line, Problem};
 use std::alloc::Global;
 
 /// What a repair begins with: the lines of a roster, at whose focus more is wanted, and a mix that has more there.
 #[derive(Clone, Copy)]
-pub(crate) struct Begun<'a> {
+pub struct Begun<'a> {
     pub base: &'a [Line],
     pub focus: usize,
     pub mix: &'a Mix,
@@ -18,7 +19,7 @@ pub(crate) struct Begun<'a> {
 
 /// The members that are free.
 #[derive(Drop)]
-pub(crate) struct Free {
+pub struct Free {
     members: Vec<usize>,
 }
 
@@ -117,7 +118,7 @@ impl Free {
     }
 
     /// The focus, who flies what the mix gives it, and others by chance: so many members.
-    pub(crate) fn chosen(
+    pub fn chosen(
         alloc: Global,
         kept: &Kept,
         begun: &Begun,
@@ -152,12 +153,7 @@ impl Free {
     }
 
     /// The board in which the others keep their lines, and the free may fly what they fly together.
-    pub(crate) fn board(
-        &self,
-        alloc: Global,
-        problem: &Problem,
-        base: &[Line],
-    ) -> Result<Board, Memory> {
+    pub fn board(&self, alloc: Global, problem: &Problem, base: &[Line]) -> Result<Board, Memory> {
         let pairings = problem.base.pairings.len();
         let open = self.pairings(base);
         let mut board = Board::empty(alloc, problem.base.members.len())?;

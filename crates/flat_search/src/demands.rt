@@ -1,5 +1,6 @@
 //! What a goal asks of a member's line, as bits of bids: what each weighs, and how much of it a line may lose.
 
+use crate::board::Row;
 use crate::pairings::PairingSet;
 use crate::places::Place;
 use crate::profiles::{bid_asked, bit_of, floor_of};
@@ -99,6 +100,7 @@ pub(crate) fn wanted_of(
     alloc: Global,
     sheet: &Sheet,
     places: &[Place],
+    row: &Row,
     demand: &mut Demand,
 ) -> Result<Option<Vec<Wanted>>, Memory> {
     let mut all: Vec<Wanted> = Vec::new(alloc);
@@ -119,7 +121,8 @@ pub(crate) fn wanted_of(
         if is_lost && !demand.lose(weight) {
             return Ok(None);
         }
-        if !is_lost && !is_free {
+        let is_granted = !spoils && row.flown.meets(&pairings);
+        if !is_lost && !is_free && !is_granted {
             add(
                 &mut all,
                 Wanted {

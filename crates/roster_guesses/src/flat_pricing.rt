@@ -1,45 +1,31 @@
-//! Lines for guesses at rosters, by flat searches.
+//! Lines for guesses at rosters, by flat searches (heuristic pricing).
 
-use crate::board::Row;
-use crate::flat_search::{Asked, Found, flat_over};
-use crate::kept::Kept;
-use crate::ladder::{is_decided_by_lines, lately, refine};
+use crate::limits::RUNGS;
 use crate::pricing::Priced;
 use duty_calendar::Memory;
-use roster_model::{Goal, Problem};
+use flat_search::{Found, Pricing, is_decided_by_lines, lately, refine};
+use line_mixes::Kept;
+use roster_model::Problem;
 use std::alloc::Global;
-
-/// How often a lens is made to look at more.
-const MOST_RUNGS: u32 = 24;
 
 /// Whether lines of the member are looked for by flat searches: the month is large, and no bid about whole lines matters for
 /// the goal.
-pub(crate) fn is_flat(problem: &Problem, kept: &Kept, member: usize, goal: &Goal) -> bool {
-    kept.courses().sheet(member).is_some() && !is_decided_by_lines(problem, member, goal)
+pub(crate) fn is_flat(problem: &Problem, kept: &Kept, asked: Pricing) -> bool {
+    kept.is_flat(asked.member) && !is_decided_by_lines(problem, asked.member, asked.goal)
 }
 
 /// A line of the member above the bound that may serve the goal and obeys the row; or that flat searches find none. The lens of
 /// the member's searches is made to look at the windows in which lines that were found break a rule.
-pub(crate) fn price_flat<'a>(
+pub(crate) fn price_flat(
     alloc: Global,
     problem: &Problem,
     kept: &mut Kept,
-    member: usize,
-    goal: &'a Goal,
-    row: &'a Row,
-    weights: &'a [i64],
-    over: i64,
+    asked: Pricing,
 ) -> Result<Priced, Memory> {
-    let asked = Asked {
-        member,
-        goal,
-        row,
-        weights,
-        over,
-    };
+    let member = asked.member;
     let mut lens = kept.lens(alloc, problem, member)?;
-    for _ in 0..MOST_RUNGS {
-        let found = match flat_over(alloc, problem, kept, &asked, &lens)? {
+    for _ in 0..RUNGS {
+        let found = match kept.flat_over(alloc, problem, &asked, &lens)? {
             Found::Line(found) => found,
             Found::Nothing => return Ok(Priced::Nothing(lens)),
             Found::Limit => return Ok(Priced::Unknown),

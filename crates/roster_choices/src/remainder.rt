@@ -5,9 +5,9 @@ use crate::covering::Choosing;
 use crate::crewing::Crewing;
 use crate::limits::TEST_STEPS;
 use duty_calendar::{List, Memory};
-use line_generator::are_known;
+use flat_search::{Board, PairingSet, are_known, is_member, number};
 use line_legality::{Illegal, legal};
-use line_mixes::{Board, Kept, PairingSet, is_member, number};
+use line_mixes::Kept;
 use roster_model::{Goal, Line, Problem};
 use std::alloc::Global;
 

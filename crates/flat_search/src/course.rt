@@ -3,11 +3,12 @@
 
 use crate::blocks::Blocks;
 use crate::board::Row;
-use crate::demands::{Demand, Wanted, wanted_of};
+use crate::demands::Wanted;
 use crate::free_hours::Rested;
 use crate::hours::Hours;
-use crate::places::{Place, look_ahead, open_flights, places_of};
+use crate::places::{Place, look_ahead};
 use crate::profiles::{is_member, number};
+use crate::scopes::Scope;
 use crate::sheets::Sheet;
 use crate::sizes::WINDOWS;
 use crate::tables::{Change, LOWEST, Table};
@@ -110,16 +111,10 @@ impl Course {
         row: &Row,
         lens: &Lens,
     ) -> Result<Option<Course>, Memory> {
-        let Some(mut demand) = Demand::of(alloc, sheet, member, goal)? else {
+        let Some(scope) = Scope::narrowed(alloc, problem, sheet, member, goal, row, lens)? else {
             return Ok(None);
         };
-        let Some(open) = open_flights(alloc, sheet, row)? else {
-            return Ok(None);
-        };
-        let places = places_of(alloc, problem, &open, row, lens)?;
-        let Some(wanted) = wanted_of(alloc, sheet, &places, &mut demand)? else {
-            return Ok(None);
-        };
+        let (places, wanted) = (scope.places, scope.wanted);
         let Some(owner) = problem.base.members.as_slice().get(member) else {
             return Ok(None);
         };
@@ -132,7 +127,7 @@ impl Course {
             places,
             weights: Vec::new(alloc),
             spoiled: 0,
-            allowed: demand.allowed,
+            allowed: scope.allowed,
             low: owner.low,
             high: owner.high,
             busy: sheet.days,

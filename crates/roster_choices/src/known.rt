@@ -3,8 +3,7 @@
 use crate::limits::KNOWN;
 use bid_score::score;
 use duty_calendar::{Copied, Memory};
-use line_generator::are_known;
-use line_mixes::{is_granted, is_member, number};
+use flat_search::{are_known, is_granted, is_member, number};
 use roster_model::{BidRef, Goal, Line, Problem, Roster};
 use std::alloc::Global;
 
@@ -74,6 +73,11 @@ impl AllKnown {
         AllKnown {
             rosters: Vec::new(alloc),
         }
+    }
+
+    /// Whether no roster is known.
+    pub fn is_empty(&self) -> bool {
+        self.rosters.is_empty()
     }
 
     /// Adds a roster, if it is not known.

@@ -1,17 +1,11 @@
 //! Lenses that look at more and more.
 
 use crate::profiles::{bid_asked, bit_of, floor_of};
-use crate::sizes::WINDOWS;
+use crate::sizes::{MOST_WHOLE, MOST_WINDOWS, WINDOWS};
 use duty_calendar::{List, Member, Memory};
 use line_legality::Illegal;
 use roster_model::{Bid, Goal, Lens, Problem, Window, WindowKind, Wish};
 use std::alloc::Global;
-
-/// How many windows a lens may look at.
-const MOST_WINDOWS: usize = 16;
-
-/// How many bids that only a whole line decides a lens may track.
-const MOST_WHOLE: u32 = 6;
 
 /// Whether one pairing of a line can decide the wish.
 pub(crate) fn is_trackable(wish: &Wish) -> bool {
@@ -106,7 +100,7 @@ fn tracked_of(problem: &Problem, member: usize, goal: &Goal) -> u64 {
 }
 
 /// Whether bids about whole lines matter for the goal.
-pub(crate) fn is_decided_by_lines(problem: &Problem, member: usize, goal: &Goal) -> bool {
+pub fn is_decided_by_lines(problem: &Problem, member: usize, goal: &Goal) -> bool {
     tracked_of_line(problem, member, goal) != 0
 }
 
@@ -152,7 +146,7 @@ pub fn first_lenses(alloc: Global, problem: &Problem) -> Result<List<Lens>, Memo
 }
 
 /// The lens once more, with the last few of its windows.
-pub(crate) fn lately(alloc: Global, lens: &Lens) -> Result<Lens, Memory> {
+pub fn lately(alloc: Global, lens: &Lens) -> Result<Lens, Memory> {
     let all = lens.windows.as_slice();
     let from = all.len().saturating_sub(WINDOWS);
     let mut windows = List::new(alloc);
@@ -179,7 +173,7 @@ fn set(flag: &mut bool) -> bool {
 }
 
 /// Makes the grain finer, and tells whether it could be.
-pub(crate) fn make_finer(grain: &mut u32) -> bool {
+pub fn make_finer(grain: &mut u32) -> bool {
     let finer = match *grain {
         60 => 15,
         15 => 5,
@@ -200,7 +194,7 @@ fn add_window(windows: &mut List<Window>, kind: WindowKind, start: u32) -> bool 
 }
 
 /// Lets the lens look at the rule that a line broke, and tells whether it did not before.
-pub(crate) fn refine(lens: &mut Lens, why: Illegal) -> bool {
+pub fn refine(lens: &mut Lens, why: Illegal) -> bool {
     match why {
         Illegal::Credit(_) => make_finer(&mut lens.grain),
         Illegal::DaysOff(_) => set(&mut lens.days),

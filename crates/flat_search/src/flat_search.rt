@@ -2,28 +2,25 @@
 //! open. A line that is found was tested; that none is found proves nothing.
 
 use crate::board::Row;
+use crate::care::Care;
 use crate::course::{Bids, Course};
-use crate::kept::Kept;
 use crate::labels::{Climb, Label};
 use crate::ladder::lately;
 use crate::pairings::PairingSet;
-use crate::prepared::Prepared;
-use crate::pricing::Care;
-use crate::profiles::{Profile, number};
+use crate::prepared::{Courses, Prepared};
+use crate::profiles::{Profile, look_at, number};
 use crate::sheets::Sheet;
-use crate::sizes::{MOST_STATES, MOST_TESTS, STAGES};
+use crate::sizes::{MOST_STATES, MOST_TESTS, MOST_WINDOWS, STAGES};
 use crate::trail::Trail;
 use duty_calendar::{List, Memory};
 use line_legality::Illegal;
 use roster_model::{Goal, Lens, Line, Problem, Window, WindowKind};
 use std::alloc::Global;
 
-/// How many windows a lens may look at.
-const MOST_WINDOWS: usize = 16;
-
-/// What is asked of a member: a line that obeys the row, may serve the goal, and weighs more than a bound.
+/// What is asked of a member: a line that obeys the row, may serve the goal, and weighs more than a bound under weights (the dual
+/// prices of the pairings), so that its reduced cost is negative.
 #[derive(Clone, Copy)]
-pub(crate) struct Asked<'a> {
+pub struct Pricing<'a> {
     pub member: usize,
     pub goal: &'a Goal,
     pub row: &'a Row,
@@ -33,7 +30,7 @@ pub(crate) struct Asked<'a> {
 
 /// A line that was found, what it weighs, and what is known of it.
 #[derive(Drop)]
-pub(crate) struct FlatLine {
+pub struct FlatLine {
     pub line: Line,
     pub weight: i64,
     pub profile: Profile,
@@ -41,7 +38,7 @@ pub(crate) struct FlatLine {
 
 /// What a flat search comes to: a line, nothing, or no answer.
 #[derive(Drop)]
-pub(crate) enum Found {
+pub enum Found {
     Line(FlatLine),
     Nothing,
     Limit,
@@ -71,7 +68,7 @@ fn window_of(why: Illegal) -> Option<Window> {
 }
 
 /// Whether a line is to be answered: it may serve, or breaks a rule in a window that the lens may look at next.
-fn is_answer(profile: &Profile, asked: &Asked, lens: &Lens) -> bool {
+fn is_answer(profile: &Profile, asked: &Pricing, lens: &Lens) -> bool {
     let Some(why) = profile.broken else {
         return profile.may_serve(asked.goal, asked.member, Care::Rough);
     };
@@ -83,13 +80,13 @@ fn is_answer(profile: &Profile, asked: &Asked, lens: &Lens) -> bool {
     }
 }
 
-/// What flat searches are about: what is asked of whom, by which lens.
+/// What flat searches are about: what is asked of whom, by which lens, and what is known of the member's lines.
 #[derive(Clone, Copy)]
 struct Scene<'a> {
     problem: &'a Problem,
-    kept: &'a Kept,
+    known: &'a [Profile],
     sheet: &'a Sheet,
-    asked: &'a Asked<'a>,
+    asked: &'a Pricing<'a>,
     lens: &'a Lens,
 }
 
@@ -112,7 +109,7 @@ impl Scene<'_> {
             return Ok(None);
         };
         let member = self.asked.member;
-        let profile = self.kept.look_at(alloc, self.problem, member, &line)?;
+        let profile = look_at(alloc, self.problem, member, self.known, &line)?;
         if !is_answer(&profile, self.asked, self.lens) {
             return Ok(None);
         }
@@ -227,17 +224,17 @@ fn staged(alloc: Global, scene: Scene, course: &mut Course) -> Result<Found, Mem
 fn course_for(
     alloc: Global,
     problem: &Problem,
-    kept: &mut Kept,
-    asked: &Asked,
+    courses: &mut Courses,
+    asked: &Pricing,
     lens: &Lens,
 ) -> Result<Option<Prepared>, Memory> {
     let (member, goal, row) = (asked.member, asked.goal, asked.row);
-    if let Some(last) = kept.courses_mut().take(member) {
+    if let Some(last) = courses.take(member) {
         if last.serves(member, goal, row, lens) {
             return Ok(Some(last));
         }
     }
-    let Some(sheet) = kept.courses().sheet(member) else {
+    let Some(sheet) = courses.sheet(member) else {
         return Ok(None);
     };
     match Course::new(alloc, problem, sheet, member, goal, row, lens)? {
@@ -250,17 +247,18 @@ fn course_for(
 fn searched<'a>(
     alloc: Global,
     problem: &'a Problem,
-    kept: &'a Kept,
-    asked: &'a Asked<'a>,
+    courses: &'a Courses,
+    known: &'a [Profile],
+    asked: &'a Pricing<'a>,
     lens: &'a Lens,
     course: &mut Course,
 ) -> Result<Found, Memory> {
-    let Some(sheet) = kept.courses().sheet(asked.member) else {
+    let Some(sheet) = courses.sheet(asked.member) else {
         return Ok(Found::Limit);
     };
     let scene = Scene {
         problem,
-        kept,
+        known,
         sheet,
         asked,
         lens,
@@ -269,21 +267,24 @@ fn searched<'a>(
 }
 
 /// A line of the member above the bound that obeys the row and may serve the goal, or one that breaks a rule in a window which
-/// the lens may look at next.
-pub(crate) fn flat_over(
+/// the lens may look at next. Of some of the member's lines this is known.
+pub fn flat_over(
     alloc: Global,
     problem: &Problem,
-    kept: &mut Kept,
-    asked: &Asked,
+    courses: &mut Courses,
+    known: &[Profile],
+    asked: &Pricing,
     lens: &Lens,
 ) -> Result<Found, Memory> {
     let few = lately(alloc, lens)?;
-    let Some(mut prepared) = course_for(alloc, problem, kept, asked, &few)? else {
+    let Some(mut prepared) = course_for(alloc, problem, courses, asked, &few)? else {
         return Ok(Found::Nothing);
     };
     prepared.course.gain(asked.weights);
     let course = &mut prepared.course;
-    let found = searched(alloc, &*problem, &*kept, &*asked, &*lens, course)?;
-    kept.courses_mut().keep(asked.member, prepared);
+    let found = searched(
+        alloc, &*problem, &*courses, &*known, &*asked, &*lens, course,
+    )?;
+    courses.keep(asked.member, prepared);
     Ok(found)
 }

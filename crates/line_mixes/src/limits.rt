@@ -1,0 +1,36 @@
+//! Bounds of what is kept, of mixes and of programs, each with its unit and what it was measured by. Where no measurement is
+//! named, the bound is one that months of 6 to 60 members seldom come to. No other file of this crate has one.
+
+/// How many lines of a member are mixed, the newest ones.
+pub(crate) const MOST_COLUMNS: usize = 2_000;
+/// How many legal lines are remembered that others may fly too, and how many of these are tested for a member in one go.
+pub(crate) const MOST_RECENT: usize = 400;
+
+pub(crate) const MOST_OFFERED: usize = 6;
+/// How many weights that closed roots are remembered, and for a member how many under which it has no line above a bound.
+pub(crate) const MOST_LEAVES: usize = 8;
+
+pub(crate) const MOST_BARREN: usize = 8;
+
+/// How often the members are gone through for one mix; of so many times the first looks at all columns; and after how many the
+/// prices of the mix are looked at.
+pub(crate) const SWEEPS: u32 = 200;
+
+pub(crate) const FULL: u32 = 8;
+
+pub(crate) const FIRST_LOOK: u32 = 8;
+
+/// In a program: a gain, or a change by which an amount comes to nothing, below this counts as none.
+pub(crate) const NO_GAIN: f64 = 0.000_000_1;
+/// A change of a row below this changes nothing.
+pub(crate) const NO_CHANGE: f64 = 0.000_000_000_01;
+/// By how much an amount may be off.
+pub(crate) const OFF: f64 = 0.000_000_001;
+/// A share below this counts as none.
+pub(crate) const NO_SHARE: f64 = 0.000_001;
+/// Needs are off by multiples of this, so that few programs have several answers.
+pub(crate) const JITTER: f64 = 0.000_000_02;
+/// What a line costs that is not to be had any more, where a miss costs 1.
+pub(crate) const COST_OF_GONE: f64 = 3.0;
+/// After so many changes a program is begun anew, since errors add up.
+pub(crate) const OLD: u32 = 20_000;

@@ -1,0 +1,4 @@
+use Rattle.roster_guesses.proofs.tested.row_over.Given as goal
+
+abbrev pub ghosts-over_from : goal.ghosts-over_from
+ghosts-over_from a = record { name = a.blank.name; parts = a.blank.parts }
