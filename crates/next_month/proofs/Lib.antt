@@ -6,3 +6,4 @@ pub mod Sound
 pub mod Lags
 pub mod Members
 pub mod Crews
+pub mod After

@@ -1,5 +1,5 @@
 -- What sorted events that are parted say of those that were not sorted.
-use Rattle.std.proofs.Common.{◌≡◌, ℕ, ◌+◌, ◌<◌, ◌≤◌, Bool, true, cond, List, ◌++◌, length, get_or, ap, sym, subst, ◌∙◌, arith, All, AllPairs}
+use Rattle.std.proofs.Common.{◌≡◌, ℕ, ◌<◌, ◌≤◌, Bool, true, cond, List, ◌++◌, length, ap, sym, subst, ◌∙◌, arith, All, AllPairs}
 use Rattle.std.specs.Prelude.{count_by, filter, nat_le, nat_lt}
 use Rattle.std.specs.List.Sorted.{IsNonDecreasingBy, IsPermutation}
 use Rattle.std.proofs.lemmas.Bool.{leb-true, ltb-true}

@@ -1,5 +1,5 @@
 //! The next month, and how far its minutes lie behind those of this one.
-ghost use Rattle.std.specs.Prelude.{◌≡◌, ◌+◌, ◌/◌, ◌≤◌, ◌↔◌, ◌+ℤ◌, pos, None, IfSome, IsTrue};
+ghost use Rattle.std.specs.Prelude.{◌≡◌, ◌≢◌, ◌+◌, ◌/◌, ◌≤◌, ◌<◌, ◌↔◌, ◌+ℤ◌, pos, None, IfSome, IsTrue};
 ghost use Rattle.duty_calendar.specs.Calendar.{day_zero, month_end, horizon_end};
 ghost use Rattle.next_month.specs.Lags.{Follows, IsLag};
 
@@ -20,19 +20,38 @@ pub fn follows(this: &Horizon, next: &Horizon) -> bool
     day_number(this, 365 + this.days()) == day_number(next, 365)
 }
 
+/// January of the year after, at the same offset.
+fn next_january(this: &Horizon) -> Option<Horizon>
+    ensures year { IfSome result (λ next. next.year ≡ this.now.year +ℤ pos 1) }
+    ensures month { IfSome result (λ next. next.month ≡ 1) }
+    ensures same { IfSome result (λ next. next.offset ≡ this.now.offset) }
+    ensures last { result ≡ None → this.now.year ≡ pos 2099 }
+{
+    Horizon::new(this.year() + 1, 1, this.offset()).ok()
+}
+
+/// The next month of the same year, at the same offset.
+fn next_in_year(this: &Horizon) -> Option<Horizon>
+    requires early { this.now.month < 12 }
+    ensures year { IfSome result (λ next. next.year ≡ this.now.year) }
+    ensures month { IfSome result (λ next. next.month ≡ this.now.month + 1) }
+    ensures same { IfSome result (λ next. next.offset ≡ this.now.offset) }
+    ensures some { result ≢ None }
+{
+    Horizon::new(this.year(), this.month() + 1, this.offset()).ok()
+}
+
 /// The next month of the calendar at the same offset, but none behind December 2099.
+#[tactic(auto, using(crate::proofs::After::january_follows, crate::proofs::After::month_follows))]
 pub fn following(this: &Horizon) -> Option<Horizon>
+    ensures follows { IfSome result (λ next. Follows this.now next) }
     ensures same { IfSome result (λ next. next.offset ≡ this.now.offset) }
     ensures last { result ≡ None → (this.now.year ≡ pos 2099) × (this.now.month ≡ 12) }
 {
-    let (year, month) = if this.month() == 12 {
-        (this.year() + 1, 1)
+    if this.month() == 12 {
+        next_january(this)
     } else {
-        (this.year(), this.month() + 1)
-    };
-    match Horizon::new(year, month, this.offset()) {
-        Ok(next) => Some(next),
-        Err(_) => None,
+        next_in_year(this)
     }
 }
 

@@ -1,4 +1,4 @@
-use Rattle.std.proofs.Common.{ℕ, ◌+◌, ◌≤◌, take, All}
+use Rattle.std.proofs.Common.{◌+◌, ◌≤◌, take, All}
 use Rattle.duty_calendar.specs.Calendar.{month_end, horizon_end}
 use Rattle.duty_calendar.specs.Checks.{IsMember}
 use Rattle.duty_calendar.specs.declared.horizon.Horizon.{Horizon}
