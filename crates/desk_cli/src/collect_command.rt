@@ -1,6 +1,7 @@
 //! The command `collect`.
-ghost use Rattle.std.specs.Prelude.{◌≡◌, codes};
-ghost use Rattle.shelf.specs.Files.{SameButAt};
+ghost use Rattle.std.specs.Prelude.{◌≡◌, IfOk, None, codes, false};
+ghost use Rattle.shelf.specs.Files.{SameButAt, told_file};
+ghost use Rattle.desk_cli.specs.DeskFiles.{StaysIfThere};
 
 use crate::runner::say;
 use crate::status::DeskStatus;
@@ -11,17 +12,20 @@ use duty_calendar::Memory;
 use file_places::Prose;
 use month_files::{File, Unread, read_file};
 use month_page::PageStop;
-use shelf::{Shelf, Sink};
+use shelf::{Shelf, ShelfFault, Sink};
 use std::alloc::Global;
 
 /// Whether a text of bids lies in the folder, or something else in its place.
+#[tactic(auto, using(crate::proofs::Kept::told_none))]
 fn is_taken<S: Shelf>(alloc: Global, shelf: &mut S) -> Result<bool, Memory>
     ensures kept { S.holds shelf.new ≡ S.holds shelf.old }
+    ensures none { IfOk result (λ b. b ≡ false →
+        told_file (S.holds shelf.old) (codes "bids.txt") ≡ None) }
 {
-    match read_file(alloc, shelf, File::Bids) {
+    match shelf.read(alloc, "bids.txt", 67_108_864) {
         Ok(_) => Ok(true),
-        Err(Unread::Missing(_)) => Ok(false),
-        Err(Unread::NoMemory) => Err(Memory::NoMemory),
+        Err(ShelfFault::Missing) => Ok(false),
+        Err(ShelfFault::NoMemory) => Err(Memory::NoMemory),
         Err(_) => Ok(true),
     }
 }
@@ -87,7 +91,7 @@ fn collect_all<S: Shelf>(
 }
 
 /// Makes the text of bids, where none is there or it may be written over.
-#[tactic(auto, using(crate::proofs::Kept::same_kept))]
+#[tactic(auto, using(crate::proofs::Kept::same_kept, crate::proofs::Kept::stays_none, crate::proofs::Kept::stays_kept))]
 fn collect_guarded<S: Shelf>(
     alloc: Global,
     shelf: &mut S,
@@ -97,6 +101,8 @@ fn collect_guarded<S: Shelf>(
     is_forced: bool,
 ) -> Result<DeskStatus, Memory>
     ensures others { SameButAt (codes "bids.txt") (S.holds shelf.old) (S.holds shelf.new) }
+    ensures unforced { is_forced ≡ false →
+        StaysIfThere (codes "bids.txt") (S.holds shelf.old) (S.holds shelf.new) }
     ensures sheets { S.holds sheets.new ≡ S.holds sheets.old }
 {
     if is_forced {
@@ -126,8 +132,9 @@ fn say_no_old<O: Sink>(alloc: Global, out: &mut O) -> DeskStatus {
 }
 
 /// Makes the text of bids of what lies in the folder `sheets`, with the bids in the folder `standing` for those who sent
-/// nothing, and puts what is said of it. No file but `bids.txt` changes.
-#[tactic(auto, using(crate::proofs::Kept::same_kept))]
+/// nothing, and puts what is said of it. No file but `bids.txt` changes, and where that one is there it changes only where
+/// `is_forced`.
+#[tactic(auto, using(crate::proofs::Kept::same_kept, crate::proofs::Kept::stays_kept))]
 pub fn run_collect<S: Shelf, O: Sink>(
     alloc: Global,
     shelf: &mut S,
@@ -137,6 +144,8 @@ pub fn run_collect<S: Shelf, O: Sink>(
     is_forced: bool,
 ) -> DeskStatus
     ensures others { SameButAt (codes "bids.txt") (S.holds shelf.old) (S.holds shelf.new) }
+    ensures unforced { is_forced ≡ false →
+        StaysIfThere (codes "bids.txt") (S.holds shelf.old) (S.holds shelf.new) }
     ensures sheets { S.holds sheets.new ≡ S.holds sheets.old }
 {
     let mut prose = Prose::new(alloc);

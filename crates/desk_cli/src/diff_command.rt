@@ -36,62 +36,79 @@ fn are_one_month(one: &Problem, other: &Problem) -> bool {
     here.year() == there.year() && here.month() == there.month()
 }
 
-/// Appends the differences from one roster to another.
-fn say_between(
+/// The differences from one roster to another.
+fn between(
     alloc: Global,
-    prose: &mut Prose,
     before: &Problem,
     before_roster: &Roster,
     now: &Award,
-) -> Result<DeskStatus, Memory>
+) -> Result<Option<Vec<Difference>>, Memory>
     requires before { IsRoster before.now before_roster.now }
     requires now { IsRoster now.now.problem now.now.roster }
 {
     let list = differences(alloc, before, before_roster, &now.problem, &now.roster)?;
-    put_differences(alloc, prose, list.as_slice())
+    Ok(Some(list))
 }
 
-/// Appends the differences from the award in a folder.
-fn say_from_folder<S: Shelf>(
+/// The differences from the award in a folder; where there are none to be told, why is appended.
+fn from_folder<S: Shelf>(
     alloc: Global,
     other: &mut S,
     prose: &mut Prose,
     now: &Award,
-) -> Result<DeskStatus, Memory>
+) -> Result<Option<Vec<Difference>>, Memory>
     requires now { IsRoster now.now.problem now.now.roster }
     ensures kept { S.holds other.new ≡ S.holds other.old }
 {
     let Some(before) = tell_award(alloc, other, prose)? else {
         prose.say(b"(this is said of the folder behind diff)\n")?;
-        return Ok(DeskStatus::Faulty);
+        return Ok(None);
     };
     if !are_one_month(&before.problem, &now.problem) {
         prose.say(b"the folders are of two months\n")?;
-        return Ok(DeskStatus::Faulty);
+        return Ok(None);
     }
-    say_between(alloc, prose, &before.problem, &before.roster, now)
+    between(alloc, &before.problem, &before.roster, now)
 }
 
-/// Appends the differences from another roster of the month.
-fn say_from_file<S: Shelf>(
+/// The differences from another roster of the month; where there are none to be told, why is appended.
+fn from_file<S: Shelf>(
     alloc: Global,
     other: &mut S,
     prose: &mut Prose,
     file: &str,
     now: &Award,
-) -> Result<DeskStatus, Memory>
+) -> Result<Option<Vec<Difference>>, Memory>
     requires now { IsRoster now.now.problem now.now.roster }
     ensures kept { S.holds other.new ≡ S.holds other.old }
 {
     if file.is_empty() || file.len() > 32 {
         prose.say(b"the name of the file behind diff must have 1 to 32 bytes\n")?;
-        return Ok(DeskStatus::Faulty);
+        return Ok(None);
     }
     let Some(before) = tell_roster_in(alloc, other, prose, file, &now.problem)? else {
         prose.say(b"(this is said of the file behind diff)\n")?;
-        return Ok(DeskStatus::Faulty);
+        return Ok(None);
     };
-    say_between(alloc, prose, &now.problem, &before, now)
+    between(alloc, &now.problem, &before, now)
+}
+
+/// The differences of an award from that in another folder, or from a roster in a file there where one is named; where there
+/// are none to be told, why is appended. No file is written.
+pub fn differences_from<S: Shelf>(
+    alloc: Global,
+    other: &mut S,
+    prose: &mut Prose,
+    file: Option<&str>,
+    now: &Award,
+) -> Result<Option<Vec<Difference>>, Memory>
+    requires now { IsRoster now.now.problem now.now.roster }
+    ensures kept { S.holds other.new ≡ S.holds other.old }
+{
+    match file {
+        Some(file) => from_file(alloc, other, prose, file, now),
+        None => from_folder(alloc, other, prose, now),
+    }
 }
 
 /// Appends what is otherwise in the award of a folder than in another folder, or in a file there where one is named.
@@ -108,9 +125,9 @@ fn say_diff<S: Shelf, T: Shelf>(
     let Some(now) = tell_award(alloc, shelf, prose)? else {
         return Ok(DeskStatus::Faulty);
     };
-    match file {
-        Some(file) => say_from_file(alloc, other, prose, file, &now),
-        None => say_from_folder(alloc, other, prose, &now),
+    match differences_from(alloc, other, prose, file, &now)? {
+        Some(list) => put_differences(alloc, prose, list.as_slice()),
+        None => Ok(DeskStatus::Faulty),
     }
 }
 

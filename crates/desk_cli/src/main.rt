@@ -12,6 +12,10 @@ mod diff_main;
 mod diff_words;
 mod explain_command;
 mod help;
+mod history_command;
+mod history_main;
+mod history_notes;
+mod history_words;
 mod lint_command;
 mod names_file;
 mod packet_command;
@@ -19,6 +23,7 @@ mod page_command;
 mod page_words;
 mod report_command;
 mod runner;
+mod since_command;
 mod spots;
 mod status;
 mod stops;
@@ -28,7 +33,8 @@ mod writing;
 use crate::calendars_main::calendars_in_folders;
 use crate::collect_command::run_collect;
 use crate::collect_words::CollectWords;
-use crate::diff_main::diff_with;
+use crate::diff_main::{diff_with, page_since};
+use crate::history_main::history_into;
 use crate::runner::{run, run_explain};
 use crate::status::DeskStatus;
 use crate::words::{DeskCommand, Request, request_of};
@@ -121,7 +127,12 @@ fn run_over<R: Files + Input + Env + AllocGlobal>(
     match command {
         DeskCommand::ExplainInput => run_explain(rt.alloc(), &mut shelf, out, &standard_input(rt)),
         DeskCommand::Diff(other) => diff_with(rt, &mut shelf, other.as_str(), out),
+        DeskCommand::PageSince(other) => {
+            let built = built_from(rt);
+            page_since(rt, &mut shelf, other.as_str(), out, built.as_bytes())
+        }
         DeskCommand::Collect(words) => collected(rt, &mut shelf, out, words),
+        DeskCommand::History(words) => history_into(rt, &mut shelf, words, out),
         command => run(
             rt.alloc(),
             &mut shelf,

@@ -3,12 +3,13 @@ ghost use Rattle.std.specs.Prelude.{◌≡◌, IfOk, codes, string_bytes};
 ghost use Rattle.shelf.specs.Files.{SameButAt};
 ghost use Rattle.desk_cli.specs.DeskFiles.{pilot_file};
 
+use crate::names_file::tell_names;
 use crate::status::DeskStatus;
 use crate::stops::say_stop;
 use crate::writing::put_file;
 use duty_calendar::{List, Memory};
 use file_places::Prose;
-use month_page::{page, pilot_page};
+use month_page::{Beside, page, pilot_page};
 use shelf::Shelf;
 use std::alloc::Global;
 
@@ -20,8 +21,24 @@ fn say_page(prose: &mut Prose, members: u32) -> Result<DeskStatus, Memory> {
     Ok(DeskStatus::Done)
 }
 
-/// Writes the page of the month.
+/// Writes the page of the month, with what stands beside its files.
 #[tactic(auto, using(crate::proofs::Kept::page_kept))]
+pub fn put_month<S: Shelf>(
+    alloc: Global,
+    shelf: &mut S,
+    prose: &mut Prose,
+    beside: &Beside<'_>,
+) -> Result<DeskStatus, Memory>
+    ensures others { SameButAt (codes "month.html") (S.holds shelf.old) (S.holds shelf.new) }
+{
+    match page(alloc, shelf, beside) {
+        Ok(members) => say_page(prose, members),
+        Err(stop) => say_stop(alloc, shelf, prose, &stop),
+    }
+}
+
+/// Writes the page of the month.
+#[tactic(auto, using(crate::proofs::Kept::same_kept))]
 pub fn run_page<S: Shelf>(
     alloc: Global,
     shelf: &mut S,
@@ -30,10 +47,11 @@ pub fn run_page<S: Shelf>(
 ) -> Result<DeskStatus, Memory>
     ensures others { SameButAt (codes "month.html") (S.holds shelf.old) (S.holds shelf.new) }
 {
-    match page(alloc, shelf, built) {
-        Ok(members) => say_page(prose, members),
-        Err(stop) => say_stop(alloc, shelf, prose, &stop),
-    }
+    let Some(names) = tell_names(alloc, shelf, prose)? else {
+        return Ok(DeskStatus::Faulty);
+    };
+    let beside = Beside::new(&names, built);
+    put_month(alloc, shelf, prose, &beside)
 }
 
 /// The name of the file of a pilot's page.
@@ -91,6 +109,24 @@ fn put_made<S: Shelf>(
     }
 }
 
+/// Writes the page of the pilot of this name, with what stands beside the files of the month.
+#[tactic(auto, using(crate::proofs::Kept::same_kept))]
+fn put_pilot<S: Shelf>(
+    alloc: Global,
+    shelf: &mut S,
+    prose: &mut Prose,
+    name: &str,
+    beside: &Beside<'_>,
+) -> Result<DeskStatus, Memory>
+    ensures others { SameButAt (pilot_file name.now) (S.holds shelf.old) (S.holds shelf.new) }
+{
+    let file = file_of(alloc, name)?;
+    match pilot_page(alloc, shelf, name.as_bytes(), beside) {
+        Ok(made) => put_made(alloc, shelf, prose, name, file.as_str(), &made),
+        Err(stop) => say_stop(alloc, shelf, prose, &stop),
+    }
+}
+
 /// Writes the page of the pilot of this name.
 #[tactic(auto, using(crate::proofs::Kept::same_kept))]
 pub fn run_pilot_page<S: Shelf>(
@@ -102,9 +138,9 @@ pub fn run_pilot_page<S: Shelf>(
 ) -> Result<DeskStatus, Memory>
     ensures others { SameButAt (pilot_file name.now) (S.holds shelf.old) (S.holds shelf.new) }
 {
-    let file = file_of(alloc, name)?;
-    match pilot_page(alloc, shelf, name.as_bytes(), built) {
-        Ok(made) => put_made(alloc, shelf, prose, name, file.as_str(), &made),
-        Err(stop) => say_stop(alloc, shelf, prose, &stop),
-    }
+    let Some(names) = tell_names(alloc, shelf, prose)? else {
+        return Ok(DeskStatus::Faulty);
+    };
+    let beside = Beside::new(&names, built);
+    put_pilot(alloc, shelf, prose, name, &beside)
 }

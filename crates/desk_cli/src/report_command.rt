@@ -2,11 +2,13 @@
 ghost use Rattle.std.specs.Prelude.{codes};
 ghost use Rattle.desk_cli.specs.DeskFiles.{SameButAtTwo};
 
+use crate::names_file::tell_names;
 use crate::status::DeskStatus;
 use crate::stops::say_stop;
 use crate::writing::put_file;
 use duty_calendar::Memory;
 use file_places::Prose;
+use month_page::Beside;
 use month_report::{Report, planner_report};
 use shelf::Shelf;
 use std::alloc::Global;
@@ -29,6 +31,23 @@ fn put_report<S: Shelf>(
     put_file(alloc, shelf, prose, "report.csv", made.records.as_slice())
 }
 
+/// Writes the report for planners, with what stands beside the files of the month.
+#[tactic(auto, using(crate::proofs::Kept::two_kept))]
+fn put_planner_report<S: Shelf>(
+    alloc: Global,
+    shelf: &mut S,
+    prose: &mut Prose,
+    beside: &Beside<'_>,
+) -> Result<DeskStatus, Memory>
+    ensures others { SameButAtTwo (codes "report.html") (codes "report.csv") (S.holds shelf.old)
+        (S.holds shelf.new) }
+{
+    match planner_report(alloc, shelf, beside) {
+        Ok(made) => put_report(alloc, shelf, prose, &made),
+        Err(stop) => say_stop(alloc, shelf, prose, &stop),
+    }
+}
+
 /// Writes the report for planners.
 #[tactic(auto, using(crate::proofs::Kept::two_kept))]
 pub fn run_report<S: Shelf>(
@@ -40,8 +59,9 @@ pub fn run_report<S: Shelf>(
     ensures others { SameButAtTwo (codes "report.html") (codes "report.csv") (S.holds shelf.old)
         (S.holds shelf.new) }
 {
-    match planner_report(alloc, shelf, built) {
-        Ok(made) => put_report(alloc, shelf, prose, &made),
-        Err(stop) => say_stop(alloc, shelf, prose, &stop),
-    }
+    let Some(names) = tell_names(alloc, shelf, prose)? else {
+        return Ok(DeskStatus::Faulty);
+    };
+    let beside = Beside::new(&names, built);
+    put_planner_report(alloc, shelf, prose, &beside)
 }

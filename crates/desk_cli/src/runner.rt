@@ -70,7 +70,8 @@ fn answer<S: Shelf>(
         DeskCommand::Packet => run_packet(alloc, shelf, prose, built),
         DeskCommand::Report => run_report(alloc, shelf, prose, built),
         DeskCommand::ExplainInput | DeskCommand::Collect(_) => Ok(DeskStatus::Done),
-        DeskCommand::Diff(_) | DeskCommand::Calendars(_) => Ok(DeskStatus::Done),
+        DeskCommand::Diff(_) | DeskCommand::PageSince(_) => Ok(DeskStatus::Done),
+        DeskCommand::Calendars(_) | DeskCommand::History(_) => Ok(DeskStatus::Done),
         DeskCommand::Help => say_help(prose),
         DeskCommand::Usage => say_usage(prose),
     }

@@ -3,6 +3,7 @@
 use crate::calendars_words::{calendars_grammar, calendars_words};
 use crate::collect_words::{CollectWords, collect_grammar, collect_words};
 use crate::diff_words::{diff_grammar, diff_words};
+use crate::history_words::{HistoryWords, history_grammar, history_words};
 use crate::page_words::{page_grammar, page_words};
 use clap::error::ErrorKind;
 use clap::{ArgMatches, Command as Grammar};
@@ -19,6 +20,8 @@ pub enum DeskCommand {
     Lint,
     /// Write the page of the month.
     Page,
+    /// Write the page of the month, with what is otherwise than in another folder, or in a roster's file.
+    PageSince(String),
     /// Write the page of the pilot of this name.
     PilotPage(String),
     /// Write the page of what can be bid for.
@@ -31,6 +34,8 @@ pub enum DeskCommand {
     Diff(String),
     /// Write a calendar for each pilot, and cancel what fell away since another folder where one is named.
     Calendars(Option<String>),
+    /// Make the month the past of the next one, in another folder.
+    History(HistoryWords),
     /// Say what each command is for.
     Help,
     /// Say that the words are no command.
@@ -65,6 +70,7 @@ fn with_lone<'w>(alloc: Global) -> Result<Grammar<'w>, AllocError> {
 /// A program with the commands over other folders.
 fn with_others<'w>(alloc: Global, program: Grammar<'w>) -> Result<Grammar<'w>, AllocError> {
     let program = and_command(program, diff_grammar(alloc))?;
+    let program = and_command(program, history_grammar(alloc))?;
     and_command(program, calendars_grammar(alloc))
 }
 
@@ -99,6 +105,7 @@ fn named(alloc: Global, name: &str, found: &ArgMatches<'_>) -> Result<DeskComman
         "collect" => collect_words(alloc, found),
         "diff" => diff_words(alloc, found),
         "calendars" => calendars_words(alloc, found),
+        "history" => history_words(alloc, found),
         "report" => Ok(DeskCommand::Report),
         _ => Ok(DeskCommand::Usage),
     }

@@ -68,7 +68,7 @@ fn put_month_data(alloc: Global, html: &mut Html, horizon: &Horizon) -> Result<(
 fn put_body(html: &mut Html, base: &Base) -> Result<(), Memory> {
     put_document(html, &base.rules)?;
     html.markup(b", trips")?;
-    put_styles(html, base, STYLE)?;
+    put_styles(html, &base.rules.horizon, STYLE)?;
     put_heading(html, base)?;
     html.markup(FORM)?;
     put_trips(html, base)?;

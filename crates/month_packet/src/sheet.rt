@@ -119,6 +119,7 @@ pub static STYLE: &[u8] =
 tr.touched>*{background:var(--mark)}
 #sheet{border:1px solid var(--rule);border-radius:6px;padding:.4rem .8rem}
 #sheet p{margin:.4rem 0}
+#sheet button:disabled{opacity:.4}
 .atom{margin-right:.4rem;white-space:nowrap}
 #told{font-size:.85rem;overflow-wrap:anywhere}
 "#;

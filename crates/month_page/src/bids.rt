@@ -1,23 +1,21 @@
 //! The bids of a pilot, and why some are denied: each reason once, with the bids that it is about.
 
+use crate::naming::Crew;
 use crate::pilot::{Pilot, SeenBid};
-use duty_calendar::{Member, Memory};
+use duty_calendar::Memory;
 use page_parts::Html;
 use roster_model::Cause;
 
 /// Appends the name of the pilot at a place above 0.
-fn put_name(html: &mut Html, members: &[Member], place: u32) -> Result<(), Memory> {
-    if let Some(member) = members.get(place.saturating_sub(1) as usize) {
-        html.text(member.name.bytes())?;
-    }
-    Ok(())
+fn put_name(html: &mut Html, crew: &Crew<'_>, place: u32) -> Result<(), Memory> {
+    html.text(crew.shown(place.saturating_sub(1)))
 }
 
 /// Appends the sentence on a place of seniority.
-fn put_place(html: &mut Html, members: &[Member], place: u32) -> Result<(), Memory> {
+fn put_place(html: &mut Html, crew: &Crew<'_>, place: u32) -> Result<(), Memory> {
     if place == 1 {
         html.markup(b"Each legal roster that grants it gives less to ")?;
-        put_name(html, members, place)?;
+        put_name(html, crew, place)?;
         return html.markup(b", the most senior.");
     }
     html.markup(b"Whatever legal roster grants it, somebody at the first ")?;
@@ -26,14 +24,14 @@ fn put_place(html: &mut Html, members: &[Member], place: u32) -> Result<(), Memo
         b" places gets less, before anybody there gets more. The first place at which it must cost ",
     )?;
     html.markup(b"something is that of ")?;
-    put_name(html, members, place)?;
+    put_name(html, crew, place)?;
     html.markup(b".")
 }
 
 /// Appends why a bid of the pilot at a place is denied.
 fn put_cause(
     html: &mut Html,
-    members: &[Member],
+    crew: &Crew<'_>,
     own: u32,
     cause: Option<Cause>,
 ) -> Result<(), Memory> {
@@ -46,7 +44,7 @@ fn put_cause(
         Some(Cause::Place(place)) if place == own => html.markup(
             b"It would cost other bids of this pilot that weigh more.",
         ),
-        Some(Cause::Place(place)) => put_place(html, members, place),
+        Some(Cause::Place(place)) => put_place(html, crew, place),
     }
 }
 
@@ -86,11 +84,11 @@ fn put_denied(html: &mut Html, bids: &[SeenBid], cause: Option<Cause>) -> Result
 }
 
 /// Appends each cause with the bids that it is about.
-fn put_causes(html: &mut Html, members: &[Member], pilot: &Pilot) -> Result<(), Memory> {
+fn put_causes(html: &mut Html, crew: &Crew<'_>, pilot: &Pilot) -> Result<(), Memory> {
     for bid in &pilot.bids {
         if !bid.granted && !was_said(&pilot.bids, bid.number, bid.cause) {
             html.markup(b"<p class=\"why\">")?;
-            put_cause(html, members, pilot.place, bid.cause)?;
+            put_cause(html, crew, pilot.place, bid.cause)?;
             html.markup(b"</p>\n")?;
             put_denied(html, &pilot.bids, bid.cause)?;
         }
@@ -110,7 +108,7 @@ fn put_granted(html: &mut Html, pilot: &Pilot) -> Result<(), Memory> {
 }
 
 /// Appends the bids of a pilot.
-pub fn put_bids(html: &mut Html, members: &[Member], pilot: &Pilot) -> Result<(), Memory> {
+pub fn put_bids(html: &mut Html, crew: &Crew<'_>, pilot: &Pilot) -> Result<(), Memory> {
     if pilot.bids.is_empty() {
         return html.markup(b"<p>No bids.</p>\n");
     }
@@ -120,5 +118,5 @@ pub fn put_bids(html: &mut Html, members: &[Member], pilot: &Pilot) -> Result<()
     if pilot.count(false) > 0 {
         html.markup(b"<h4 class=\"x\">&#10005; Denied</h4>\n")?;
     }
-    put_causes(html, members, pilot)
+    put_causes(html, crew, pilot)
 }

@@ -2,10 +2,11 @@
 
 use crate::bids::put_bids;
 use crate::entry::Entry;
+use crate::naming::Crew;
 use crate::pilot::Pilot;
 use crate::route::put_route;
 use crate::strip::put_told;
-use duty_calendar::{Base, Horizon, Memory};
+use duty_calendar::{Horizon, Memory};
 use page_parts::Html;
 
 /// Appends an entry.
@@ -51,6 +52,16 @@ pub fn put_sums(html: &mut Html, pilot: &Pilot) -> Result<(), Memory> {
     html.markup(b" days off</p>\n")
 }
 
+/// Appends the name that the files have, where another one is shown.
+pub fn put_own_name(html: &mut Html, pilot: &Pilot) -> Result<(), Memory> {
+    if pilot.shown == pilot.name {
+        return Ok(());
+    }
+    html.markup(b" <small>")?;
+    html.text(pilot.name)?;
+    html.markup(b"</small>")
+}
+
 /// Appends the head of a card. One with many bids has the class `big`.
 fn put_card_head(html: &mut Html, pilot: &Pilot) -> Result<(), Memory> {
     if pilot.bids.len() > 24 {
@@ -64,24 +75,36 @@ fn put_card_head(html: &mut Html, pilot: &Pilot) -> Result<(), Memory> {
     html.markup(b" <a href=\"#p")?;
     html.number(pilot.place)?;
     html.markup(b"\">")?;
-    html.text(pilot.name)?;
-    html.markup(b"</a></h3>\n")
+    html.text(pilot.shown)?;
+    html.markup(b"</a>")?;
+    put_own_name(html, pilot)?;
+    html.markup(b"</h3>\n")
 }
 
 /// Appends the card of a pilot: sums, trips and fixed events, bids.
-fn put_card(html: &mut Html, base: &Base, pilot: &Pilot) -> Result<(), Memory> {
+fn put_card(
+    html: &mut Html,
+    horizon: &Horizon,
+    crew: &Crew<'_>,
+    pilot: &Pilot,
+) -> Result<(), Memory> {
     put_card_head(html, pilot)?;
     put_sums(html, pilot)?;
-    put_entries(html, &base.rules.horizon, &pilot.entries)?;
-    put_bids(html, base.members.as_slice(), pilot)?;
+    put_entries(html, horizon, &pilot.entries)?;
+    put_bids(html, crew, pilot)?;
     html.markup(b"</section>\n")
 }
 
 /// Appends the cards of pilots.
-pub fn put_cards(html: &mut Html, base: &Base, pilots: &[Pilot]) -> Result<(), Memory> {
+pub fn put_cards(
+    html: &mut Html,
+    horizon: &Horizon,
+    crew: &Crew<'_>,
+    pilots: &[Pilot],
+) -> Result<(), Memory> {
     html.markup(b"<h2 id=\"cards\">Lines and bids</h2>\n<main>\n")?;
     for pilot in pilots {
-        put_card(html, base, pilot)?;
+        put_card(html, horizon, crew, pilot)?;
     }
     html.markup(b"</main>\n")
 }

@@ -89,7 +89,7 @@ fn weights<'a>(alloc: Global, pilots: &[Pilot<'a>]) -> Result<Vec<Bar<'a>>, Memo
     let mut bars = Vec::new(alloc);
     for pilot in pilots {
         bars.push(Bar {
-            name: pilot.name,
+            name: pilot.shown,
             part: pilot.score,
             whole: pilot.weight(),
         })?;
@@ -102,7 +102,7 @@ fn credits<'a>(alloc: Global, pilots: &[Pilot<'a>]) -> Result<Vec<Bar<'a>>, Memo
     let mut bars = Vec::new(alloc);
     for pilot in pilots {
         bars.push(Bar {
-            name: pilot.name,
+            name: pilot.shown,
             part: pilot.credit.saturating_sub(pilot.low),
             whole: pilot.high.saturating_sub(pilot.low),
         })?;

@@ -1,7 +1,7 @@
 //! The head of a page.
 
 use crate::style::STYLE;
-use duty_calendar::{Base, Horizon, Member, Memory, Rules};
+use duty_calendar::{Base, Horizon, Memory, Rules};
 use page_parts::{FIRST_DAY, Html, is_weekend, month_name, put_style};
 
 /// Appends the base, the seat and the month.
@@ -38,29 +38,19 @@ fn put_shades(html: &mut Html, horizon: &Horizon) -> Result<(), Memory> {
     html.markup(b")")
 }
 
-/// How many bytes the longest name of a member has.
-fn longest_name(members: &[Member]) -> u32 {
-    let mut longest = 0;
-    for member in members {
-        longest = longest.max(member.name.bytes().len() as u32);
-    }
-    longest
-}
-
-/// Appends the rules that hang on the month: its minutes, the length of names, and what lies behind the days.
-fn put_month_style(html: &mut Html, base: &Base) -> Result<(), Memory> {
-    let horizon = &base.rules.horizon;
+/// Appends the rules that hang on the month: its minutes, and what lies behind the days.
+fn put_month_style(html: &mut Html, horizon: &Horizon) -> Result<(), Memory> {
     html.markup(b":root{--t:")?;
     html.number(1440 * horizon.days())?;
-    html.markup(b";--n:")?;
-    html.number(longest_name(base.members.as_slice()))?;
     html.markup(
         b"}\n.strip{background:repeating-linear-gradient(90deg,var(--rule) 0 1px,#0000 0 calc(100%/",
     )?;
     html.number(horizon.days())?;
     html.markup(b")),\n")?;
     put_shades(html, horizon)?;
-    html.markup(b"}\n.grounds{display:flex}.grounds span{flex:1;font-size:.75rem}\n")
+    html.markup(
+        b"}\n.grounds{display:flex;margin-top:.25rem}.grounds span{flex:1;font-size:.75rem}\n",
+    )
 }
 
 /// Appends the head of a document about a month, up to its title's end.
@@ -73,11 +63,11 @@ pub fn put_document(html: &mut Html, rules: &Rules) -> Result<(), Memory> {
 }
 
 /// Appends the rest of the document's head, with the styles of pages, strips, this month and this page alone.
-pub fn put_styles(html: &mut Html, base: &Base, own: &'static [u8]) -> Result<(), Memory> {
+pub fn put_styles(html: &mut Html, horizon: &Horizon, own: &'static [u8]) -> Result<(), Memory> {
     html.markup(b"</title>\n<style>\n")?;
     put_style(html)?;
     html.markup(STYLE)?;
-    put_month_style(html, base)?;
+    put_month_style(html, horizon)?;
     html.markup(own)?;
     html.markup(b"</style>\n</head>\n<body>\n")
 }
@@ -99,8 +89,19 @@ pub fn put_clock(html: &mut Html, horizon: &Horizon) -> Result<(), Memory> {
     html.markup(b".")
 }
 
+/// Appends the links to the parts of the roster's page, and the room of what searches.
+fn put_links(html: &mut Html, has_changes: bool) -> Result<(), Memory> {
+    html.markup(b"<nav class=\"tool\"><a href=\"#cards\">Lines and bids</a>")?;
+    if has_changes {
+        html.markup(b"<a href=\"#changes\">What is otherwise</a>")?;
+    }
+    html.markup(
+        b"<a href=\"#trips\">Trips</a><a href=\"#open\">Open trips</a><a href=\"#charts\">Charts</a><span id=\"search\"></span></nav>\n",
+    )
+}
+
 /// Appends the heading of the roster's page.
-pub fn put_heading(html: &mut Html, base: &Base) -> Result<(), Memory> {
+pub fn put_heading(html: &mut Html, base: &Base, has_changes: bool) -> Result<(), Memory> {
     html.markup(b"<header>\n<h1>")?;
     put_title(html, &base.rules)?;
     html.markup(b"</h1>\n<p>")?;
@@ -109,7 +110,7 @@ pub fn put_heading(html: &mut Html, base: &Base) -> Result<(), Memory> {
     html.count(base.pairings.len())?;
     html.markup(b" trips. ")?;
     put_clock(html, &base.rules.horizon)?;
-    html.markup(
-        b"</p>\n<nav class=\"tool\"><a href=\"#cards\">Lines and bids</a><a href=\"#trips\">Trips</a><a href=\"#open\">Open trips</a><a href=\"#charts\">Charts</a><span id=\"search\"></span></nav>\n</header>\n",
-    )
+    html.markup(b"</p>\n")?;
+    put_links(html, has_changes)?;
+    html.markup(b"</header>\n")
 }

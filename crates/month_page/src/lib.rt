@@ -2,12 +2,15 @@
 //! pilot.
 #![tactic(auto)]
 
+mod beside;
 mod bids;
 mod card;
+mod changes;
 mod charts;
 mod counting;
 mod entry;
 mod head;
+mod naming;
 mod offer_words;
 mod offers;
 mod own_page;
@@ -24,6 +27,8 @@ mod style;
 mod sums;
 mod trips;
 
+pub use beside::Beside;
+pub use changes::Changes;
 pub use charts::{GROUNDS, Ground, count_bids, count_denied, put_charts};
 pub use counting::counted;
 pub use head::{put_clock, put_document, put_styles, put_title};

@@ -2,6 +2,7 @@
 ghost use Rattle.std.specs.Prelude.{◌≡◌, ◌<◌, All, length};
 ghost use Rattle.roster_model.specs.Rosters.{IsComplete};
 
+use crate::naming::Crew;
 use crate::offers::{gifts_of, is_complete, swaps_of, takes_of};
 use duty_calendar::{Base, Memory};
 use page_parts::Html;
@@ -17,18 +18,11 @@ fn put_trip(html: &mut Html, base: &Base, pairing: u32) -> Result<(), Memory> {
     Ok(())
 }
 
-/// Appends the name of a member.
-fn put_pilot(html: &mut Html, base: &Base, member: u32) -> Result<(), Memory> {
-    if let Some(member) = base.members.as_slice().get(member as usize) {
-        html.text(member.name.bytes())?;
-    }
-    Ok(())
-}
-
 /// Appends the names of a pairing and of who has it, or will have it.
 fn put_trip_of(
     html: &mut Html,
     base: &Base,
+    crew: &Crew<'_>,
     pairing: u32,
     between: &'static [u8],
     member: u32,
@@ -37,21 +31,27 @@ fn put_trip_of(
     put_trip(html, base, pairing)?;
     html.markup(b"</b>")?;
     html.markup(between)?;
-    put_pilot(html, base, member)
+    html.text(crew.shown(member))
 }
 
 /// Appends a trade, as a pilot sees it.
-fn put_trade(html: &mut Html, base: &Base, own: u32, trade: Trade) -> Result<(), Memory> {
+fn put_trade(
+    html: &mut Html,
+    base: &Base,
+    crew: &Crew<'_>,
+    own: u32,
+    trade: Trade,
+) -> Result<(), Memory> {
     html.markup(b"<li>")?;
     match trade {
         Trade::Move(giver, pairing, receiver) if giver == own => {
-            put_trip_of(html, base, pairing, b" to ", receiver)?;
+            put_trip_of(html, base, crew, pairing, b" to ", receiver)?;
         }
-        Trade::Move(giver, pairing, _) => put_trip_of(html, base, pairing, b" of ", giver)?,
+        Trade::Move(giver, pairing, _) => put_trip_of(html, base, crew, pairing, b" of ", giver)?,
         Trade::Swap(_, pairing, receiver, taken) => {
             put_trip(html, base, pairing)?;
             html.markup(b" for ")?;
-            put_trip_of(html, base, taken, b" of ", receiver)?;
+            put_trip_of(html, base, crew, taken, b" of ", receiver)?;
         }
     }
     html.markup(b"</li>\n")
@@ -61,6 +61,7 @@ fn put_trade(html: &mut Html, base: &Base, own: u32, trade: Trade) -> Result<(),
 fn put_list(
     html: &mut Html,
     base: &Base,
+    crew: &Crew<'_>,
     own: u32,
     heading: &'static [u8],
     trades: &[Trade],
@@ -71,7 +72,7 @@ fn put_list(
     html.count(trades.len())?;
     html.markup(b"</summary>\n<ul class=\"many\">\n")?;
     for trade in trades {
-        put_trade(html, base, own, *trade)?;
+        put_trade(html, base, crew, own, *trade)?;
     }
     html.markup(b"</ul></details>\n")
 }
@@ -81,6 +82,7 @@ fn put_offers(
     alloc: Global,
     html: &mut Html,
     problem: &Problem,
+    crew: &Crew<'_>,
     roster: &Roster,
     member: u32,
 ) -> Result<(), Memory>
@@ -91,6 +93,7 @@ fn put_offers(
     put_list(
         html,
         base,
+        crew,
         member,
         b"Trips that somebody else could take",
         &gifts,
@@ -99,6 +102,7 @@ fn put_offers(
     put_list(
         html,
         base,
+        crew,
         member,
         b"Trips of others that you could take",
         &takes,
@@ -107,6 +111,7 @@ fn put_offers(
     put_list(
         html,
         base,
+        crew,
         member,
         b"Swaps that would be legal for both",
         &swaps,
@@ -118,6 +123,7 @@ pub fn put_trades(
     alloc: Global,
     html: &mut Html,
     problem: &Problem,
+    crew: &Crew<'_>,
     roster: &Roster,
     member: u32,
 ) -> Result<(), Memory>
@@ -128,7 +134,7 @@ pub fn put_trades(
         b"<h2>Trades</h2>\n<p>What <code>pbs FOLDER trade</code> would take today, each by itself. Whether the other pilot agrees is another matter.</p>\n",
     )?;
     if is_complete(alloc, problem, roster)? {
-        return put_offers(alloc, html, problem, roster, member);
+        return put_offers(alloc, html, problem, crew, roster, member);
     }
     html.markup(b"<p>The roster is not complete, so nothing can be traded.</p>\n")
 }

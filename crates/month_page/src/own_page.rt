@@ -4,9 +4,11 @@ ghost use Rattle.month_files.specs.FileNames.{limit_of};
 ghost use Rattle.month_files.specs.Reading.{AreShort, view_texts};
 ghost use Rattle.month_files.specs.declared.file.File.TheVariants.{Reasons as ReasonsFile};
 
+use crate::beside::Beside;
 use crate::bids::put_bids;
-use crate::card::{put_entries, put_sums};
+use crate::card::{put_entries, put_own_name, put_sums};
 use crate::head::{put_clock, put_document, put_styles, put_title};
+use crate::naming::Crew;
 use crate::offer_words::put_trades;
 use crate::page_stop::PageStop;
 use crate::paging::{Seen, read_seen};
@@ -20,6 +22,7 @@ use page_parts::{Html, put_foot};
 use roster_model::{Problem, Reasons, Roster};
 use roster_text::{read_reasons, read_roster};
 use shelf::Shelf;
+use staff_names::StaffNames;
 use std::alloc::Global;
 
 /// The number of the member of this name.
@@ -37,7 +40,8 @@ fn member_named(problem: &Problem, name: &[u8]) -> Option<u32>
 /// Appends the heading: the month and the pilot.
 fn put_pilot_heading(html: &mut Html, rules: &Rules, pilot: &Pilot) -> Result<(), Memory> {
     html.markup(b"<header>\n<h1>")?;
-    html.text(pilot.name)?;
+    html.text(pilot.shown)?;
+    put_own_name(html, pilot)?;
     html.markup(b", ")?;
     put_title(html, rules)?;
     html.markup(b"</h1>\n<p>Place ")?;
@@ -60,19 +64,24 @@ fn put_month(html: &mut Html, rules: &Rules, pilot: &Pilot) -> Result<(), Memory
 }
 
 /// Appends the body, up to the trades.
-fn put_own(html: &mut Html, problem: &Problem, pilot: &Pilot) -> Result<(), Memory> {
+fn put_own(
+    html: &mut Html,
+    problem: &Problem,
+    crew: &Crew<'_>,
+    pilot: &Pilot,
+) -> Result<(), Memory> {
     put_document(html, &problem.base.rules)?;
     html.markup(b", ")?;
-    html.text(pilot.name)?;
+    html.text(pilot.shown)?;
     put_styles(
         html,
-        &problem.base,
+        &problem.base.rules.horizon,
         b".many{columns:14rem;padding-left:1.2rem}\n",
     )?;
     put_pilot_heading(html, &problem.base.rules, pilot)?;
     put_month(html, &problem.base.rules, pilot)?;
     html.markup(b"<h2>Bids</h2>\n<section>\n")?;
-    put_bids(html, problem.base.members.as_slice(), pilot)?;
+    put_bids(html, crew, pilot)?;
     html.markup(b"</section>\n")
 }
 
@@ -82,6 +91,7 @@ fn print_pilot(
     problem: &Problem,
     roster: &Roster,
     reasons: &Reasons,
+    names: &StaffNames,
     member: u32,
 ) -> Result<Html, Memory>
     requires member { member < length problem.now.base.members }
@@ -90,9 +100,13 @@ fn print_pilot(
 {
     let mut html = Html::new(alloc);
     let line = &roster.as_slice()[member as usize];
-    let pilot = pilot_of(alloc, problem, reasons.as_slice(), member, line)?;
-    put_own(&mut html, problem, &pilot)?;
-    put_trades(alloc, &mut html, problem, roster, member)?;
+    let pilot = pilot_of(alloc, problem, reasons.as_slice(), names, member, line)?;
+    let crew = Crew {
+        members: problem.base.members.as_slice(),
+        names,
+    };
+    put_own(&mut html, problem, &crew, &pilot)?;
+    put_trades(alloc, &mut html, problem, &crew, roster, member)?;
     Ok(html)
 }
 
@@ -108,7 +122,7 @@ fn pilot_page_of(
     alloc: Global,
     seen: &Seen,
     name: &[u8],
-    built: &[u8],
+    beside: &Beside<'_>,
 ) -> Result<Option<List<u8>>, PageStop>
     requires short { AreShort (view_texts seen.now.texts) }
     requires limit { length seen.now.reasons.items ≤ limit_of ReasonsFile }
@@ -119,19 +133,19 @@ fn pilot_page_of(
     let Some(member) = member_named(&problem, name) else {
         return Ok(None);
     };
-    let page = print_pilot(alloc, &problem, &roster, &reasons, member)?;
-    Ok(Some(with_foot(alloc, page, seen, built)?))
+    let page = print_pilot(alloc, &problem, &roster, &reasons, beside.names, member)?;
+    Ok(Some(with_foot(alloc, page, seen, beside.built)?))
 }
 
-/// The page of the member of this name, where there is one. No file is written.
+/// The page of the member of this name, where there is one, without what is otherwise. No file is written.
 pub fn pilot_page<S: Shelf>(
     alloc: Global,
     shelf: &mut S,
     name: &[u8],
-    built: &[u8],
+    beside: &Beside<'_>,
 ) -> Result<Option<List<u8>>, PageStop>
     ensures kept { S.holds shelf.new ≡ S.holds shelf.old }
 {
     let seen = read_seen(alloc, shelf)?;
-    pilot_page_of(alloc, &seen, name, built)
+    pilot_page_of(alloc, &seen, name, beside)
 }

@@ -9,6 +9,7 @@ ghost use Rattle.shelf.specs.Files.{SameButAt};
 ghost use Rattle.month_page.specs.PageEnds.{page_name, PageCause, PageLeaves};
 ghost use Rattle.month_page.specs.Pages.{seen_in, view_seen, seen_texts, ComesOf, IsPageRun, IsPageHanded};
 
+use crate::beside::Beside;
 use crate::page_stop::PageStop;
 use crate::printing::print_page;
 use crate::sums::sums_of;
@@ -63,17 +64,17 @@ fn bytes_of(
     problem: &Problem,
     roster: &Roster,
     reasons: &Reasons,
-    built: &[u8],
+    beside: &Beside<'_>,
 ) -> Result<List<u8>, Memory>
     requires lines { length roster.now ≡ length problem.now.base.members }
     requires in_range { All (All (λ p. p < length problem.now.base.pairings)) roster.now }
 {
     let sums = sums_of(alloc, seen)?;
-    print_page(alloc, problem, roster, reasons, &sums, built)
+    print_page(alloc, problem, roster, reasons, &sums, beside)
 }
 
 /// The page of the month that was read.
-fn page_of(alloc: Global, seen: &Seen, built: &[u8]) -> Result<Sheet, PageStop>
+fn page_of(alloc: Global, seen: &Seen, beside: &Beside<'_>) -> Result<Sheet, PageStop>
     requires short { AreShort (view_texts seen.now.texts) }
     requires limit { length seen.now.reasons.items ≤ limit_of ReasonsFile }
     ensures comes { ComesOf (view_seen seen.now) result }
@@ -81,7 +82,7 @@ fn page_of(alloc: Global, seen: &Seen, built: &[u8]) -> Result<Sheet, PageStop>
     let problem = read_month(alloc, &seen.texts)?;
     let roster = read_roster(alloc, &seen.roster, &problem)?;
     let reasons = read_reasons(alloc, &seen.reasons, &problem)?;
-    let bytes = bytes_of(alloc, seen, &problem, &roster, &reasons, built)?;
+    let bytes = bytes_of(alloc, seen, &problem, &roster, &reasons, beside)?;
     Ok(Sheet {
         bytes,
         members: problem.base.members.len() as u32,
@@ -105,15 +106,15 @@ fn write_page<S: Shelf>(alloc: Global, shelf: &mut S, bytes: &[u8]) -> Result<()
 }
 
 /// Writes `month.html`, the page of the month, the roster and the reasons in the folder. The answer is how many members
-/// it shows. `built` says what the program was built from, or nothing.
-pub fn page<S: Shelf>(alloc: Global, shelf: &mut S, built: &[u8]) -> Result<u32, PageStop>
+/// it shows.
+pub fn page<S: Shelf>(alloc: Global, shelf: &mut S, beside: &Beside<'_>) -> Result<u32, PageStop>
     ensures cause { PageCause (S.tally shelf.old) (S.tally shelf.new) result }
     ensures told { ForSome (S.holds shelf.old) (λ files. IsPageRun files result) }
     ensures left { PageLeaves (S.holds shelf.old) (S.holds shelf.new) result }
     ensures handed { IsPageHanded (S.log shelf.old) (S.log shelf.new) result }
 {
     let seen = read_seen(alloc, shelf)?;
-    let sheet = page_of(alloc, &seen, built)?;
+    let sheet = page_of(alloc, &seen, beside)?;
     match write_page(alloc, shelf, sheet.bytes.as_slice()) {
         Ok(()) => Ok(sheet.members),
         Err(why) => Err(PageStop::Unwritten(why)),

@@ -3,10 +3,12 @@ ghost use Rattle.std.specs.Prelude.{◌≡◌, ◌<◌, All, length};
 ghost use Rattle.roster_model.specs.Scores.{bids_of};
 
 use crate::entry::{Entry, entries_of};
+use crate::naming::shown_name;
 use bid_language::put_bid;
 use bid_score::{credit, days_off, granted, score};
 use duty_calendar::{Interval, List, Member, Memory};
 use roster_model::{BidRef, Cause, Denial, Line, Problem, Roster, Wish, pairing_span};
+use staff_names::StaffNames;
 use std::alloc::Global;
 
 /// A bid, and whether the pilot's line grants it. Of a denied one there may be a cause; of one for a trip or for days there
@@ -22,11 +24,12 @@ pub struct SeenBid {
     pub is_off: bool,
 }
 
-/// A pilot with a line. Places count from 1, times and credit are in minutes.
+/// A pilot with a line, by the name in the files and the one that is shown. Places count from 1, times and credit are in minutes.
 #[derive(Drop)]
 pub struct Pilot<'a> {
     pub place: u32,
     pub name: &'a [u8],
+    pub shown: &'a [u8],
     pub low: u32,
     pub high: u32,
     pub credit: u32,
@@ -136,6 +139,7 @@ pub fn pilot_of<'a>(
     alloc: Global,
     problem: &'a Problem,
     reasons: &[Denial],
+    names: &'a StaffNames,
     member: u32,
     line: &'a Line,
 ) -> Result<Pilot<'a>, Memory>
@@ -146,6 +150,7 @@ pub fn pilot_of<'a>(
     Ok(Pilot {
         place: member.saturating_add(1),
         name: known.name.bytes(),
+        shown: shown_name(names, known.name.bytes()),
         low: known.low,
         high: known.high,
         credit: credit(problem, member, line),
@@ -163,6 +168,7 @@ pub fn pilots_of<'a>(
     problem: &'a Problem,
     roster: &'a Roster,
     reasons: &[Denial],
+    names: &'a StaffNames,
 ) -> Result<Vec<Pilot<'a>>, Memory>
     requires lines { length roster.now ≡ length problem.now.base.members }
     requires in_range { All (All (λ p. p < length problem.now.base.pairings)) roster.now }
@@ -170,7 +176,7 @@ pub fn pilots_of<'a>(
     let mut pilots = Vec::new(alloc);
     for member in 0..problem.base.members.len() as u32 {
         let line = &roster.as_slice()[member as usize];
-        pilots.push(pilot_of(alloc, problem, reasons, member, line)?)?;
+        pilots.push(pilot_of(alloc, problem, reasons, names, member, line)?)?;
     }
     Ok(pilots)
 }

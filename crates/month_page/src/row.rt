@@ -36,12 +36,14 @@ fn put_sums(html: &mut Html, pilot: &Pilot) -> Result<(), Memory> {
 fn put_row_head(html: &mut Html, pilot: &Pilot) -> Result<(), Memory> {
     html.markup(b"<tr id=\"p")?;
     html.number(pilot.place)?;
-    html.markup(b"\">\n<th scope=\"row\" class=\"n\"><small>")?;
+    html.markup(b"\">\n<th scope=\"row\" class=\"n\" title=\"")?;
+    html.text(pilot.name)?;
+    html.markup(b"\"><small>")?;
     html.number(pilot.place)?;
     html.markup(b"</small> <a href=\"#b")?;
     html.number(pilot.place)?;
     html.markup(b"\">")?;
-    html.text(pilot.name)?;
+    html.text(pilot.shown)?;
     html.markup(b"</a></th>\n")
 }
 

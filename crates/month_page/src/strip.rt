@@ -68,11 +68,31 @@ fn label_stop(entry: &Entry, after: Option<&Entry>, minutes: u32) -> u32 {
     }
 }
 
-/// Appends the label of an entry: the name of a trip, or the word of a fixed event.
-fn put_label(html: &mut Html, entry: &Entry, start: u32, stop: u32) -> Result<(), Memory> {
-    html.markup(b"<span class=\"n")?;
-    put_place(html, start, stop)?;
-    html.markup(b"><i>")?;
+/// Where the room of the second label behind an entry begins, or the month ends: there the room of a label ends where labels
+/// stand in two lanes.
+fn lane_stop(after: Option<&Entry>, next: Option<&Entry>, minutes: u32) -> u32 {
+    match after {
+        Some(after) => label_stop(after, next, minutes),
+        None => minutes,
+    }
+}
+
+/// Appends the label of an entry: the name of a trip, or the word of a fixed event. It has room up to a minute in one lane, and up
+/// to another one in two.
+fn put_label(
+    html: &mut Html,
+    entry: &Entry,
+    start: u32,
+    stop: u32,
+    far: u32,
+) -> Result<(), Memory> {
+    html.markup(b"<span class=\"n\" style=\"--a:")?;
+    html.number(start)?;
+    html.markup(b";--w:")?;
+    html.number(stop.saturating_sub(start))?;
+    html.markup(b";--v:")?;
+    html.number(far.saturating_sub(start))?;
+    html.markup(b"\"><i>")?;
     html.text(entry.name)?;
     html.markup(b"</i></span>\n")
 }
@@ -83,9 +103,11 @@ fn put_entries(html: &mut Html, horizon: &Horizon, entries: &[Entry]) -> Result<
     let mut before = None;
     for (at, entry) in entries.iter().enumerate() {
         let start = label_start(before, entry, minutes);
-        let stop = label_stop(entry, entries.get(at.saturating_add(1)), minutes);
+        let after = entries.get(at.saturating_add(1));
+        let stop = label_stop(entry, after, minutes);
+        let far = lane_stop(after, entries.get(at.saturating_add(2)), minutes);
         put_bar(html, horizon, entry)?;
-        put_label(html, entry, start, stop)?;
+        put_label(html, entry, start, stop, far)?;
         before = Some(entry);
     }
     Ok(())

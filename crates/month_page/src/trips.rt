@@ -39,7 +39,7 @@ fn put_link(html: &mut Html, pilot: &Pilot) -> Result<(), Memory> {
     html.markup(b" <a href=\"#p")?;
     html.number(pilot.place)?;
     html.markup(b"\">")?;
-    html.text(pilot.name)?;
+    html.text(pilot.shown)?;
     html.markup(b"</a>")
 }
 

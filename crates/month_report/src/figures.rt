@@ -7,6 +7,7 @@ use duty_calendar::Memory;
 use month_page::{Pilot, pilots_of};
 use page_parts::FIRST_DAY;
 use roster_model::{Problem, Reasons, Roster};
+use staff_names::StaffNames;
 use std::alloc::Global;
 
 /// How many bids for days off have a day in them, and how many of these are granted. Days count from the first of the horizon.
@@ -70,11 +71,12 @@ pub fn figures_of<'a>(
     problem: &'a Problem,
     roster: &'a Roster,
     reasons: &Reasons,
+    names: &'a StaffNames,
 ) -> Result<Figures<'a>, Memory>
     requires lines { length roster.now ≡ length problem.now.base.members }
     requires in_range { All (All (λ p. p < length problem.now.base.pairings)) roster.now }
 {
-    let pilots = pilots_of(alloc, problem, roster, reasons.as_slice())?;
+    let pilots = pilots_of(alloc, problem, roster, reasons.as_slice(), names)?;
     let days = day_figures(alloc, &pilots, problem.base.rules.horizon.days())?;
     let open = open_trips(alloc, problem, &pilots)?;
     Ok(Figures {

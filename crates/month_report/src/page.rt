@@ -37,7 +37,7 @@ fn put_pilot(html: &mut Html, pilot: &Pilot) -> Result<(), Memory> {
     html.markup(b"<tr>")?;
     put_number(html, pilot.place)?;
     html.markup(b"<th scope=\"row\">")?;
-    html.text(pilot.name)?;
+    html.text(pilot.shown)?;
     html.markup(b"</th>")?;
     put_number(html, pilot.count(true))?;
     put_number(html, pilot.count(false))?;
@@ -125,10 +125,10 @@ fn put_unwanted(html: &mut Html, base: &Base, trips: &[u32]) -> Result<(), Memor
 }
 
 /// Appends the names of members.
-fn put_able(html: &mut Html, base: &Base, able: &[u32]) -> Result<(), Memory> {
+fn put_able(html: &mut Html, pilots: &[Pilot], able: &[u32]) -> Result<(), Memory> {
     for member in able {
-        if let Some(member) = base.members.as_slice().get(*member as usize) {
-            html.text(member.name.bytes())?;
+        if let Some(pilot) = pilots.get(*member as usize) {
+            html.text(pilot.shown)?;
             html.markup(b" ")?;
         }
     }
@@ -136,7 +136,12 @@ fn put_able(html: &mut Html, base: &Base, able: &[u32]) -> Result<(), Memory> {
 }
 
 /// Appends the row of an open trip.
-fn put_open_trip(html: &mut Html, base: &Base, open: &OpenTrip) -> Result<(), Memory> {
+fn put_open_trip(
+    html: &mut Html,
+    base: &Base,
+    pilots: &[Pilot],
+    open: &OpenTrip,
+) -> Result<(), Memory> {
     let Some(pairing) = base.pairings.as_slice().get(open.pairing as usize) else {
         return Ok(());
     };
@@ -144,12 +149,17 @@ fn put_open_trip(html: &mut Html, base: &Base, open: &OpenTrip) -> Result<(), Me
     put_cells(html, &base.rules.horizon, pairing)?;
     put_number(html, open.lack)?;
     html.markup(b"<td>")?;
-    put_able(html, base, &open.able)?;
+    put_able(html, pilots, &open.able)?;
     html.markup(b"</td></tr>\n")
 }
 
 /// Appends the open trips.
-fn put_open(html: &mut Html, base: &Base, trips: &[OpenTrip]) -> Result<(), Memory> {
+fn put_open(
+    html: &mut Html,
+    base: &Base,
+    pilots: &[Pilot],
+    trips: &[OpenTrip],
+) -> Result<(), Memory> {
     html.markup(b"<h2>Open trips</h2>\n")?;
     if trips.is_empty() {
         return html.markup(b"<p>None: each trip has the pilots that it needs.</p>\n");
@@ -159,7 +169,7 @@ fn put_open(html: &mut Html, base: &Base, trips: &[OpenTrip]) -> Result<(), Memo
         b"<th scope=\"col\" class=\"k r\">Pilots wanting</th><th scope=\"col\">Could fly it</th></tr></thead>\n<tbody>\n",
     )?;
     for open in trips {
-        put_open_trip(html, base, open)?;
+        put_open_trip(html, base, pilots, open)?;
     }
     html.markup(b"</tbody></table></div>\n")
 }
@@ -168,7 +178,7 @@ fn put_open(html: &mut Html, base: &Base, trips: &[OpenTrip]) -> Result<(), Memo
 fn put_heading(html: &mut Html, base: &Base) -> Result<(), Memory> {
     put_document(html, &base.rules)?;
     html.markup(b", report")?;
-    put_styles(html, base, b"")?;
+    put_styles(html, &base.rules.horizon, b"")?;
     html.markup(b"<header>\n<h1>Report: ")?;
     put_title(html, &base.rules)?;
     html.markup(b"</h1>\n<p>")?;
@@ -190,7 +200,7 @@ pub fn print_report(
     put_pilots(&mut html, &figures.pilots)?;
     put_days(&mut html, &base.rules.horizon, &figures.days)?;
     put_unwanted(&mut html, base, &figures.unwanted)?;
-    put_open(&mut html, base, &figures.open)?;
+    put_open(&mut html, base, &figures.pilots, &figures.open)?;
     html.markup(SCRIPT)?;
     put_foot(alloc, &mut html, sums, built)?;
     Ok(html.into_bytes())

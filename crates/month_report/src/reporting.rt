@@ -9,7 +9,7 @@ use crate::page::print_report;
 use crate::records::print_records;
 use duty_calendar::List;
 use month_files::read_month;
-use month_page::{PageStop, Seen, read_seen, sums_of};
+use month_page::{Beside, PageStop, Seen, read_seen, sums_of};
 use roster_text::{read_reasons, read_roster};
 use shelf::Shelf;
 use std::alloc::Global;
@@ -22,29 +22,29 @@ pub struct Report {
 }
 
 /// The report of the month that was read.
-fn report_of(alloc: Global, seen: &Seen, built: &[u8]) -> Result<Report, PageStop>
+fn report_of(alloc: Global, seen: &Seen, beside: &Beside<'_>) -> Result<Report, PageStop>
     requires short { AreShort (view_texts seen.now.texts) }
     requires limit { length seen.now.reasons.items ≤ limit_of ReasonsFile }
 {
     let problem = read_month(alloc, &seen.texts)?;
     let roster = read_roster(alloc, &seen.roster, &problem)?;
     let reasons = read_reasons(alloc, &seen.reasons, &problem)?;
-    let figures = figures_of(alloc, &problem, &roster, &reasons)?;
+    let figures = figures_of(alloc, &problem, &roster, &reasons, beside.names)?;
     let sums = sums_of(alloc, seen)?;
     Ok(Report {
-        page: print_report(alloc, &problem.base, &figures, &sums, built)?,
+        page: print_report(alloc, &problem.base, &figures, &sums, beside.built)?,
         records: print_records(alloc, &problem, &figures)?,
     })
 }
 
-/// The report of the award in the folder. No file is written.
+/// The report of the award in the folder, without what is otherwise. No file is written.
 pub fn planner_report<S: Shelf>(
     alloc: Global,
     shelf: &mut S,
-    built: &[u8],
+    beside: &Beside<'_>,
 ) -> Result<Report, PageStop>
     ensures kept { S.holds shelf.new ≡ S.holds shelf.old }
 {
     let seen = read_seen(alloc, shelf)?;
-    report_of(alloc, &seen, built)
+    report_of(alloc, &seen, beside)
 }

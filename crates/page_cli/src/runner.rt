@@ -3,8 +3,9 @@
 use crate::ending::{Ending, ending_of, usage};
 use answer_texts::Status;
 use duty_calendar::Memory;
-use month_page::page;
+use month_page::{Beside, page};
 use shelf::{Shelf, Sink, SinkFault};
+use staff_names::StaffNames;
 use std::alloc::Global;
 
 /// Puts what is said, and says how the run ends.
@@ -19,9 +20,11 @@ fn say<O: Sink>(found: Result<Ending, Memory>, out: &mut O) -> Status {
     }
 }
 
-/// Writes the page of the month on the shelf. `built` says what the program was built from, or nothing.
+/// Writes the page of the month on the shelf, with the names of its files. `built` says what the program was built from, or nothing.
 pub fn run<S: Shelf, O: Sink>(alloc: Global, shelf: &mut S, out: &mut O, built: &[u8]) -> Status {
-    let end = page(alloc, shelf, built);
+    let names = StaffNames::new(alloc);
+    let beside = Beside::new(&names, built);
+    let end = page(alloc, shelf, &beside);
     say(ending_of(alloc, end), out)
 }
 

@@ -55,6 +55,17 @@ fn put_open_trip(prose: &mut Prose, name: &[u8], count: u64, pilots: u64) -> Res
     )
 }
 
+/// Appends what was made: a month of so many pilots and pairings.
+fn put_made(prose: &mut Prose, members: u64, pairings: u64) -> Result<(), Memory> {
+    put_count(
+        prose,
+        b"the eight files of a month were written, with ",
+        members,
+        b" pilots and ",
+    )?;
+    put_count(prose, b"", pairings, b" pairings")
+}
+
 /// Appends what a line of the sums of a search says.
 fn put_sums(prose: &mut Prose, done: Done<'_>) -> Result<(), Memory> {
     match done {
@@ -82,15 +93,7 @@ fn put_sums(prose: &mut Prose, done: Done<'_>) -> Result<(), Memory> {
             count,
             b" nodes and found no end: nothing is said of the month; a larger --nodes gives it more",
         ),
-        Done::Made(members, pairings) => {
-            put_count(
-                prose,
-                b"the eight files of a month were written, with ",
-                members,
-                b" pilots and ",
-            )?;
-            put_count(prose, b"", pairings, b" pairings")
-        }
+        Done::Made(members, pairings) => put_made(prose, members, pairings),
         Done::Migrated(version) => put_count(
             prose,
             b"certificate.txt was written anew in the version of today; it was of version ",

@@ -61,23 +61,9 @@ fn put_days_off(prose: &mut Prose, count: u32) -> Result<(), Memory> {
     prose.say(b" days off, fewer than days_off of rules.toml")
 }
 
-/// Appends which rule a line breaks.
-pub fn put_rule(prose: &mut Prose, month: Option<&Problem>, why: Illegal) -> Result<(), Memory> {
+/// Appends in which window of hours a line has too much, if it is that what it breaks.
+fn put_window(prose: &mut Prose, month: Option<&Problem>, why: Illegal) -> Result<(), Memory> {
     match why {
-        Illegal::NoMemory => prose.say(b"memory ran out"),
-        Illegal::Overlap(at) => put_at(prose, month, b"two things lie in the same minute, ", at),
-        Illegal::Rest(at) => put_at(
-            prose,
-            month,
-            b"there are fewer than 10 hours without duty before the report on ",
-            at,
-        ),
-        Illegal::Free30(at) => put_at(
-            prose,
-            month,
-            b"no 30 hours in a row are without duty in the 168 hours before the report on ",
-            at,
-        ),
         Illegal::Flight672(at) => put_from(
             prose,
             month,
@@ -99,6 +85,30 @@ pub fn put_rule(prose: &mut Prose, month: Option<&Problem>, why: Illegal) -> Res
             at,
             40_320,
         ),
+        _ => Ok(()),
+    }
+}
+
+/// Appends which rule a line breaks.
+pub fn put_rule(prose: &mut Prose, month: Option<&Problem>, why: Illegal) -> Result<(), Memory> {
+    match why {
+        Illegal::NoMemory => prose.say(b"memory ran out"),
+        Illegal::Overlap(at) => put_at(prose, month, b"two things lie in the same minute, ", at),
+        Illegal::Rest(at) => put_at(
+            prose,
+            month,
+            b"there are fewer than 10 hours without duty before the report on ",
+            at,
+        ),
+        Illegal::Free30(at) => put_at(
+            prose,
+            month,
+            b"no 30 hours in a row are without duty in the 168 hours before the report on ",
+            at,
+        ),
+        Illegal::Flight672(_) | Illegal::Duty168(_) | Illegal::Duty672(_) => {
+            put_window(prose, month, why)
+        }
         Illegal::Flight365(day) => put_year(prose, month, day),
         Illegal::Credit(total) => put_credit(prose, total),
         Illegal::DaysOff(count) => put_days_off(prose, count),
