@@ -223,10 +223,10 @@ def broken_limit(month, member, line):
     return None
 
 
-def illegality(month, member, line):
-    """The first rule that the line breaks, as its code and place, or None."""
+def illegality(month, member, line, but=None):
+    """The first rule that the line breaks, as its code and place, or None, where of the first three one may be left out."""
     for code, place in [(1, overlap), (2, short_rest), (3, no_free_block)]:
-        found = place(month, member, line)
+        found = None if code == but else place(month, member, line)
         if found is not None:
             return code, found
     limit = broken_limit(month, member, line)

@@ -26,7 +26,7 @@ def pairing(pick, number):
     made = law.Pairing(f"P{number + 1}", need, credit, [], [], [])
     day = pick.choice(OFF) if FREE else pick.randint(4, 24)
     report = law.MONTH + 1440 * day + pick.choice([0, 30, 480, 487, 600, 1439])
-    for _ in range(pick.randint(1, 2)):
+    for _ in range(pick.choice([1, 1, 1, 2]) if FREE else pick.randint(1, 2)):
         made.duties.append(duty(pick, report))
         made.layovers.append(pick.choice(["", "ORD", "DEN"]))
         made.stations.append([(pick.choice(STATIONS), pick.choice(STATIONS))])
@@ -113,12 +113,29 @@ def wish(pick, pairings):
 
 
 def member(pick, number, pairings):
-    low, high = pick.choice([(0, 5400)] * (2 if FREE else 8) + [(0, 330), (0, 320), (300, 600), (301, 600), (299, 301), (61, 61)])
+    low, high = pick.choice([(0, 5400)] * 8 + [(0, 330), (0, 320), (300, 600), (301, 600), (299, 301), (61, 61)])
     bids = [(pick.choice([1, 2, 5, 10]), wish(pick, pairings)) for _ in range(pick.choice([0, 1, 1, 2, 3]))]
     return law.Member(f"M{number + 1}", low, high, history(pick), fixed_events(pick), bids)
 
 
+def free_hours_matter(month):
+    """Whether some member may fly a line that lacks thirty free hours, but for these."""
+    return any(
+        law.no_free_block(month, member, line) is not None and law.illegality(month, member, line, but=3) is None
+        for member in month.members
+        for line in judge.lines(month)
+    )
+
+
 def month(pick):
+    """A month; with `FREE` one in which free hours matter."""
+    made = any_month(pick)
+    while FREE and not free_hours_matter(made):
+        made = any_month(pick)
+    return made
+
+
+def any_month(pick):
     pairings = [pairing(pick, number) for number in range(pick.randint(0, 4))]
     members = [member(pick, number, pairings) for number in range(pick.randint(1, 3))]
     return law.Month(pick.choice([0] * 6 + [5, 26, 27, 28, 29, 30]), pairings, members)

@@ -1,7 +1,6 @@
 -- How a run of `check` ends and what it prints.
 use Rattle.std.specs.Prelude.{ℕ, ◌+◌, ℤ, List, [], ◌∷◌, ◌++◌, codes, Result, Ok, Err}
-use Rattle.line_legality.specs.declared.illegal.Illegal.{Illegal}
-use Rattle.line_legality.specs.declared.illegal.Illegal.TheVariants as illegal
+use Rattle.line_legality.specs.Numbers.{illegal_numbers}
 use Rattle.line_lens.specs.declared.lens_fault.LensFault.{LensFault}
 use Rattle.line_lens.specs.declared.lens_fault.LensFault.TheVariants as lens
 use Rattle.cert_text.specs.Codes.{cert_code}
@@ -30,19 +29,6 @@ check_status (Err (stop.No why)) = status.No
 check_status (Err stop.NoMemory) = status.NoMemory
 
 -- a fault as numbers: its code, then its arguments. Members, pairings, bids, searches, items and windows count from 1.
-abbrev pub illegal_numbers : Illegal → List ℕ
-illegal_numbers illegal.NoMemory = 0 ∷ 0 ∷ []
-illegal_numbers (illegal.Overlap minute) = 1 ∷ minute ∷ []
-illegal_numbers (illegal.Rest report) = 2 ∷ report ∷ []
-illegal_numbers (illegal.Free30 report) = 3 ∷ report ∷ []
-illegal_numbers (illegal.Flight672 start) = 4 ∷ start ∷ []
-illegal_numbers (illegal.Duty168 start) = 5 ∷ start ∷ []
-illegal_numbers (illegal.Duty672 start) = 6 ∷ start ∷ []
-illegal_numbers (illegal.Flight365 day) = 7 ∷ day ∷ []
-illegal_numbers (illegal.Credit total) = 8 ∷ total ∷ []
-illegal_numbers (illegal.DaysOff count) = 9 ∷ count ∷ []
-illegal_numbers (illegal.Night report) = 10 ∷ report ∷ []
-
 abbrev pub lens_numbers : LensFault → List ℕ
 lens_numbers (lens.Untrackable bid) = 1 ∷ (bid + 1) ∷ []
 lens_numbers (lens.Windows count) = 2 ∷ count ∷ []

@@ -1,6 +1,7 @@
 -- How a run of `trade` ends, and what it prints.
 use Rattle.std.specs.Prelude.{ℕ, ◌+◌, List, [], ◌∷◌, ◌++◌, codes, decimal, Result, Ok, Err}
 use Rattle.cert_checker.specs.declared.refusal.No.TheVariants as no
+use Rattle.line_legality.specs.Numbers.{illegal_numbers}
 use Rattle.line_legality.specs.declared.shortfall.RosterFault.{RosterFault}
 use Rattle.line_legality.specs.declared.shortfall.RosterFault.TheVariants as fault
 use Rattle.roster_text.specs.Codes.{roster_code}
@@ -16,7 +17,7 @@ use Rattle.desk_commands.specs.declared.trade_stop.Untraded.{Untraded}
 use Rattle.desk_commands.specs.declared.trade_stop.Untraded.TheVariants as untraded
 use Rattle.answer_texts.specs.declared.status.Status.{Status}
 use Rattle.answer_texts.specs.declared.status.Status.TheVariants as status
-use Rattle.answer_texts.specs.CheckTexts.{illegal_numbers, no_text}
+use Rattle.answer_texts.specs.CheckTexts.{no_text}
 use Rattle.answer_texts.specs.Lines.{line, line_of}
 use Rattle.answer_texts.specs.MonthEnds.{unread_status, unread_text, input_status, bad_input_text}
 use Rattle.answer_texts.specs.WriteEnds.{write_status, unwritten_text}

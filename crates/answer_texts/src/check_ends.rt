@@ -1,6 +1,6 @@
 //! How a run of `check` ends, and what it prints.
 ghost use Rattle.std.specs.Prelude.{◌≡◌, ◌+◌, [], ◌∷◌, ◌++◌, codes, IfOk, OnOk};
-ghost use Rattle.answer_texts.specs.CheckTexts.{check_status, check_text, yes_text, illegal_numbers, lens_numbers, sum_text, item_text, no_text, refusal_text};
+ghost use Rattle.answer_texts.specs.CheckTexts.{check_status, check_text, yes_text, lens_numbers, sum_text, item_text, no_text, refusal_text};
 ghost use Rattle.answer_texts.specs.Lines.{line, line_of, numbers};
 
 use crate::lines::{line_text, numbered, put_count, put_numbers, put_vector};
@@ -9,7 +9,7 @@ use crate::status::Status;
 use cert_checker::{ItemFault, No};
 use duty_calendar::{List, Memory};
 use field_text::put_bytes;
-use line_legality::Illegal;
+use line_legality::illegal_numbers;
 use line_lens::LensFault;
 use month_commands::{CheckStop, Refusal, Verdict};
 use std::alloc::Global;
@@ -24,25 +24,6 @@ pub fn check_status(end: &Result<Verdict, CheckStop>) -> Status
         Err(CheckStop::BadInput(why)) => input_status(why),
         Err(CheckStop::No(_)) => Status::No,
         Err(CheckStop::NoMemory) => Status::NoMemory,
-    }
-}
-
-/// An illegal line's code and place.
-pub(crate) fn illegal_numbers(why: Illegal) -> [u64; 2]
-    ensures value { result ≡ illegal_numbers why }
-{
-    match why {
-        Illegal::NoMemory => [0, 0],
-        Illegal::Overlap(minute) => [1, u64::from(minute)],
-        Illegal::Rest(report) => [2, u64::from(report)],
-        Illegal::Free30(report) => [3, u64::from(report)],
-        Illegal::Flight672(start) => [4, u64::from(start)],
-        Illegal::Duty168(start) => [5, u64::from(start)],
-        Illegal::Duty672(start) => [6, u64::from(start)],
-        Illegal::Flight365(day) => [7, u64::from(day)],
-        Illegal::Credit(total) => [8, u64::from(total)],
-        Illegal::DaysOff(count) => [9, u64::from(count)],
-        Illegal::Night(report) => [10, u64::from(report)],
     }
 }
 

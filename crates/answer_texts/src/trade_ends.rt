@@ -5,7 +5,7 @@ ghost use Rattle.trade_desk.specs.declared.refusal.Refusal.TheVariants.{Line};
 ghost use Rattle.trade_desk.specs.declared.refusal.TradeVerdict.TheVariants.{Accepted};
 ghost use Rattle.answer_texts.specs.TradeTexts.{refusal_numbers, shortfall_text, trade_status, trade_text, traded_text, untraded_text, verdict_line, verdict_lines};
 
-use crate::check_ends::{illegal_numbers, no_line};
+use crate::check_ends::no_line;
 use crate::lines::{numbered, put_count, put_vector};
 use crate::month_ends::{bad_input_text, input_status, unread_status, unread_text};
 use crate::status::Status;
@@ -14,7 +14,7 @@ use cert_checker::No;
 use desk_commands::{TradeStop, Traded, Untraded};
 use duty_calendar::{List, Memory};
 use field_text::put_bytes;
-use line_legality::{Illegal, RosterFault};
+use line_legality::{Illegal, RosterFault, illegal_numbers};
 use std::alloc::Global;
 use trade_desk::{Refusal, TradeVerdict};
 

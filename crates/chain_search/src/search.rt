@@ -105,10 +105,8 @@ fn turn<R: Resource, O: Order<R>, B: Rest<R>, L: Ledger>(
         }
         return Ok(Outcome::Comes);
     }
-    if walk
-        .marks
-        .dispense(order, next.place, next.gain, &next.resource)
-    {
+    let marks = &walk.marks;
+    if marks.dispense(order, next.place, next.gain, &next.resource) {
         return Ok(Outcome::Goes);
     }
     let mark = Mark {

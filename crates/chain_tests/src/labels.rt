@@ -25,49 +25,18 @@ fn two_ways(alloc: Global, cap: u32) -> Result<Graph<Least>, Memory>
     Ok(graph)
 }
 
+/// A step of a span under a cap of 10.
+fn step_of(down: u32, up: u32) -> SpanStep {
+    SpanStep { down, up, cap: 10 }
+}
+
 /// A way that comes high enough, beside one that gains more, uses less and does not.
 fn low_and_high(alloc: Global) -> Result<Graph<Span>, Memory> {
     let mut graph = Graph::new(alloc, 4, Span { down: 0, up: 0 }, SpanEnd { low: 3 })?;
-    graph.arc(
-        0,
-        1,
-        0,
-        SpanStep {
-            down: 0,
-            up: 0,
-            cap: 10,
-        },
-    )?;
-    graph.arc(
-        1,
-        2,
-        2,
-        SpanStep {
-            down: 2,
-            up: 3,
-            cap: 10,
-        },
-    )?;
-    graph.arc(
-        0,
-        2,
-        3,
-        SpanStep {
-            down: 1,
-            up: 1,
-            cap: 10,
-        },
-    )?;
-    graph.arc(
-        2,
-        3,
-        0,
-        SpanStep {
-            down: 0,
-            up: 0,
-            cap: 10,
-        },
-    )?;
+    graph.arc(0, 1, 0, step_of(0, 0))?;
+    graph.arc(1, 2, 2, step_of(2, 3))?;
+    graph.arc(0, 2, 3, step_of(1, 1))?;
+    graph.arc(2, 3, 0, step_of(0, 0))?;
     Ok(graph)
 }
 

@@ -86,28 +86,17 @@ fn span_stops_at_its_greatest_sum(rt: HostRuntime) {
         up: 1,
         cap: 3,
     };
-    assert!(rt;
-        comes_to(
-            start,
-            step,
-            step,
-            Span {
-                down: 3,
-                up: 2_147_483_648
-            }
-        )
-    );
-    assert!(rt;
-        stops(
-            start,
-            step,
-            SpanStep {
-                down: 2,
-                up: 0,
-                cap: 3
-            }
-        )
-    );
+    let highest = Span {
+        down: 3,
+        up: 2_147_483_648,
+    };
+    assert!(rt; comes_to(start, step, step, highest));
+    let lower = SpanStep {
+        down: 2,
+        up: 0,
+        cap: 3,
+    };
+    assert!(rt; stops(start, step, lower));
     assert!(rt; meets(start, SpanEnd { low: 2_147_483_647 }));
     assert!(rt; !meets(start, SpanEnd { low: 2_147_483_648 }));
     assert!(rt; !is_below(Span { down: 1, up: 1 }, Span { down: 2, up: 2 }));

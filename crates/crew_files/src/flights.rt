@@ -10,44 +10,24 @@ use duty_calendar::{Flown, Horizon, Kind, List};
 use field_text::{Class, FieldFault, FileCode, moment_of};
 use std::alloc::Global;
 
+const D: Class = Class::Digit;
+
+const DASH: Class = Class::Byte(b'-');
+
+const T: Class = Class::Byte(b'T');
+
+const COLON: Class = Class::Byte(b':');
+
+const Z: Class = Class::Byte(b'Z');
+
+const SLASH: Class = Class::Byte(b'/');
+
+const BLANK: Class = Class::Byte(b' ');
+
 // The bytes of a flight and the blank behind it.
 static FLIGHT: [Class; 36] = [
-    Class::Digit,
-    Class::Digit,
-    Class::Digit,
-    Class::Digit,
-    Class::Byte(b'-'),
-    Class::Digit,
-    Class::Digit,
-    Class::Byte(b'-'),
-    Class::Digit,
-    Class::Digit,
-    Class::Byte(b'T'),
-    Class::Digit,
-    Class::Digit,
-    Class::Byte(b':'),
-    Class::Digit,
-    Class::Digit,
-    Class::Byte(b'Z'),
-    Class::Byte(b'/'),
-    Class::Digit,
-    Class::Digit,
-    Class::Digit,
-    Class::Digit,
-    Class::Byte(b'-'),
-    Class::Digit,
-    Class::Digit,
-    Class::Byte(b'-'),
-    Class::Digit,
-    Class::Digit,
-    Class::Byte(b'T'),
-    Class::Digit,
-    Class::Digit,
-    Class::Byte(b':'),
-    Class::Digit,
-    Class::Digit,
-    Class::Byte(b'Z'),
-    Class::Byte(b' '),
+    D, D, D, D, DASH, D, D, DASH, D, D, T, D, D, COLON, D, D, Z, SLASH, D, D, D, D, DASH, D, D,
+    DASH, D, D, T, D, D, COLON, D, D, Z, BLANK,
 ];
 
 /// The first column at which the text is no list of flights.

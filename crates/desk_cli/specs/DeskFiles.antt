@@ -1,5 +1,5 @@
 -- Which files a command of the desk writes in the month's folder: those that it names, and no other.
-use Rattle.std.specs.Prelude.{◌≡◌, List, ◌++◌, ℕ, Option, codes, string_bytes}
+use Rattle.std.specs.Prelude.{◌≡◌, List, ◌++◌, ℕ, Option, Some, codes, string_bytes}
 use Rattle.std.specs.Option.{ForSome}
 use Rattle.shelf.specs.Files.{Files, SameButAt, told_file}
 use Rattle.month_files.specs.declared.file.File.{File}
@@ -21,6 +21,10 @@ pub record SameButAtTwo (first second : List ℕ) (old new : Option Files) : Typ
 abbrev pub StaysIfThere : List ℕ → Option Files → Option Files → Type 0
 StaysIfThere name old new = ForSome (told_file old name) (λ bytes. new ≡ old)
 
+-- each file that is there has stayed
+abbrev pub StayThere : Option Files → Option Files → Type 0
+StayThere old new = (name : List ℕ) → ForSome (told_file old name) (λ bytes. told_file new name ≡ Some bytes)
+
 -- each file but one of a month's has stayed
 pub record SameButOne (old new : Option Files) : Type 0 where
   pub file : File
@@ -38,6 +42,7 @@ Leaves (command.Collect words) old new = new ≡ old
 Leaves (command.Diff other) old new = new ≡ old
 Leaves (command.Calendars since) old new = new ≡ old
 Leaves (command.History words) old new = new ≡ old
+Leaves (command.Import words) old new = new ≡ old
 Leaves command.Report old new = SameButAtTwo (codes "report.html") (codes "report.csv") old new
 Leaves command.Help old new = new ≡ old
 Leaves command.Usage old new = new ≡ old

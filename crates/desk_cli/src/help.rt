@@ -4,9 +4,9 @@ use duty_calendar::Memory;
 use file_places::Prose;
 
 /// What each command is for.
-static HELP: [&[u8]; 27] = [
+static HELP: [&[u8]; 29] = [
     b"pbs-desk FOLDER COMMAND: what pbs does not say, and pages. It writes no file that pbs reads, but what\n",
-    b"collect makes, and in the folder of the next month what history makes.\n",
+    b"collect and import make, and in the folder of the next month what history makes.\n",
     b"\n",
     b"  explain LINE   says a line that pbs printed as a sentence, with the text that it points to and a mark\n",
     b"                 below it; without LINE it reads the lines from standard input: pbs FOLDER check |\n",
@@ -27,6 +27,8 @@ static HELP: [&[u8]; 27] = [
     b"  history NEXT [--force]   makes the month with its roster the past of the next one: writes history.csv into\n",
     b"                 the folder NEXT, over one that is there only with --force, and what is not there of rules.toml,\n",
     b"                 crew.csv and fixed.csv; it ends with 1 where someone is new or gone, or fixed.csv lacks something\n",
+    b"  import SHEET [--force]   makes one of the six CSV files of a sheet that a spreadsheet wrote, says each change,\n",
+    b"                 and writes it where the readers of pbs take it; over one that is there only with --force\n",
     b"  help           says this\n",
     b"\n",
     b"Pages and calendars show the names of the staff in names.csv, where there is one.\n",
@@ -45,6 +47,6 @@ pub fn put_help(prose: &mut Prose) -> Result<(), Memory> {
 /// Appends how the program is called.
 pub fn put_usage(prose: &mut Prose) -> Result<(), Memory> {
     prose.say(
-        b"usage: pbs-desk FOLDER explain [LINE] | lint | packet | collect DIR [--standing OLD] [--force] | page [MEMBER | --diff OTHER] | report | diff OTHER | calendars [--cancelled OLD] | history NEXT [--force] | help\n",
+        b"usage: pbs-desk FOLDER explain [LINE] | lint | packet | collect DIR [--standing OLD] [--force] | page [MEMBER | --diff OTHER] | report | diff OTHER | calendars [--cancelled OLD] | history NEXT [--force] | import SHEET [--force] | help\n",
     )
 }

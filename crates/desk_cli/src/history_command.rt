@@ -8,7 +8,7 @@ use crate::status::DeskStatus;
 use duty_calendar::Memory;
 use file_places::Prose;
 use folder_answers::{explain, input_answer, rule_answer, tell_answer, unread_answer};
-use line_legality::{Illegal, RosterFault};
+use line_legality::{RosterFault, illegal_numbers};
 use month_files::{BadInput, File, Unwritten, WriteStop};
 use next_folder::{Barrier, HistoryStop, roll_over};
 use next_month::HeirFault;
@@ -45,23 +45,6 @@ fn say_line<S: Shelf>(
     prose.say(b"\n")?;
     explain(alloc, shelf, prose, line.as_slice())?;
     Ok(DeskStatus::Faulty)
-}
-
-/// The code of what is wrong with a line, and its place.
-fn illegal_numbers(why: Illegal) -> [u64; 2] {
-    match why {
-        Illegal::NoMemory => [0, 0],
-        Illegal::Overlap(minute) => [1, u64::from(minute)],
-        Illegal::Rest(report) => [2, u64::from(report)],
-        Illegal::Free30(report) => [3, u64::from(report)],
-        Illegal::Flight672(start) => [4, u64::from(start)],
-        Illegal::Duty168(start) => [5, u64::from(start)],
-        Illegal::Duty672(start) => [6, u64::from(start)],
-        Illegal::Flight365(day) => [7, u64::from(day)],
-        Illegal::Credit(total) => [8, u64::from(total)],
-        Illegal::DaysOff(count) => [9, u64::from(count)],
-        Illegal::Night(report) => [10, u64::from(report)],
-    }
 }
 
 /// Words and numbers behind them.

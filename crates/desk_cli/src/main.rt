@@ -16,6 +16,10 @@ mod history_command;
 mod history_main;
 mod history_notes;
 mod history_words;
+mod import_before;
+mod import_command;
+mod import_main;
+mod import_words;
 mod lint_command;
 mod names_file;
 mod packet_command;
@@ -35,6 +39,7 @@ use crate::collect_command::run_collect;
 use crate::collect_words::CollectWords;
 use crate::diff_main::{diff_with, page_since};
 use crate::history_main::history_into;
+use crate::import_main::import_from;
 use crate::runner::{run, run_explain};
 use crate::status::DeskStatus;
 use crate::words::{DeskCommand, Request, request_of};
@@ -133,6 +138,7 @@ fn run_over<R: Files + Input + Env + AllocGlobal>(
         }
         DeskCommand::Collect(words) => collected(rt, &mut shelf, out, words),
         DeskCommand::History(words) => history_into(rt, &mut shelf, words, out),
+        DeskCommand::Import(words) => import_from(rt, &mut shelf, &words, out),
         command => run(
             rt.alloc(),
             &mut shelf,

@@ -72,6 +72,7 @@ fn answer<S: Shelf>(
         DeskCommand::ExplainInput | DeskCommand::Collect(_) => Ok(DeskStatus::Done),
         DeskCommand::Diff(_) | DeskCommand::PageSince(_) => Ok(DeskStatus::Done),
         DeskCommand::Calendars(_) | DeskCommand::History(_) => Ok(DeskStatus::Done),
+        DeskCommand::Import(_) => Ok(DeskStatus::Done),
         DeskCommand::Help => say_help(prose),
         DeskCommand::Usage => say_usage(prose),
     }

@@ -4,6 +4,7 @@ use crate::calendars_words::{calendars_grammar, calendars_words};
 use crate::collect_words::{CollectWords, collect_grammar, collect_words};
 use crate::diff_words::{diff_grammar, diff_words};
 use crate::history_words::{HistoryWords, history_grammar, history_words};
+use crate::import_words::{ImportWords, import_grammar, import_words};
 use crate::page_words::{page_grammar, page_words};
 use clap::error::ErrorKind;
 use clap::{ArgMatches, Command as Grammar};
@@ -36,6 +37,8 @@ pub enum DeskCommand {
     Calendars(Option<String>),
     /// Make the month the past of the next one, in another folder.
     History(HistoryWords),
+    /// Make a file of the month of a sheet of a spreadsheet.
+    Import(ImportWords),
     /// Say what each command is for.
     Help,
     /// Say that the words are no command.
@@ -71,6 +74,7 @@ fn with_lone<'w>(alloc: Global) -> Result<Grammar<'w>, AllocError> {
 fn with_others<'w>(alloc: Global, program: Grammar<'w>) -> Result<Grammar<'w>, AllocError> {
     let program = and_command(program, diff_grammar(alloc))?;
     let program = and_command(program, history_grammar(alloc))?;
+    let program = and_command(program, import_grammar(alloc))?;
     and_command(program, calendars_grammar(alloc))
 }
 
@@ -106,6 +110,7 @@ fn named(alloc: Global, name: &str, found: &ArgMatches<'_>) -> Result<DeskComman
         "diff" => diff_words(alloc, found),
         "calendars" => calendars_words(alloc, found),
         "history" => history_words(alloc, found),
+        "import" => import_words(alloc, found),
         "report" => Ok(DeskCommand::Report),
         _ => Ok(DeskCommand::Usage),
     }

@@ -6,7 +6,8 @@ use Rattle.month_files.specs.declared.file.File.TheVariants.{Roster}
 use Rattle.month_files.specs.FileNames.{name_of, limit_of}
 use Rattle.month_files.specs.Handing.{FromReads}
 use Rattle.month_files.specs.Reading.{AreShort}
-use Rattle.desk_commands.specs.Calendars.{Seen, seen_in, seen_texts, calendar_order}
+use Rattle.month_files.specs.Sights.{Seen, seen_in, seen_texts}
+use Rattle.desk_commands.specs.Calendars.{calendar_order}
 use Rattle.desk_commands.proofs.Held.{held, then_ok, inputs_held}
 
 -- the inputs and the roster

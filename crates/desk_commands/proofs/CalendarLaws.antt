@@ -24,7 +24,8 @@ use Rattle.desk_commands.specs.declared.calendars.MemberCalendar.{MemberCalendar
 use Rattle.desk_commands.specs.declared.calendar_stop.CalendarStop.{CalendarStop}
 use Rattle.desk_commands.specs.declared.calendar_stop.CalendarStop.TheVariants as stop
 use Rattle.desk_commands.specs.declared.calendar_stop.Undated.TheVariants as undated
-use Rattle.desk_commands.specs.Calendars.{Seen, seen_in, seen_texts, calendar_order, OfSight, OfMember, OfCalendar, IsDated, IsFileOf, IsCalendarFile, IsBadSight, IsCalendarRun, IsCalendarHanded}
+use Rattle.month_files.specs.Sights.{Seen, seen_in, seen_texts, OfSight, IsBadSight}
+use Rattle.desk_commands.specs.Calendars.{calendar_order, OfMember, OfCalendar, IsDated, IsFileOf, IsCalendarFile, IsCalendarRun, IsCalendarHanded}
 use Rattle.desk_commands.specs.CalendarEnds.{unread_roster, CalendarCause}
 use Rattle.desk_commands.proofs.CalendarHeld.{seen_held, from_seen}
 use Rattle.desk_commands.proofs.CalendarNames.{named_so}

@@ -1,17 +1,13 @@
 //! The command `calendar`.
-ghost use Rattle.std.specs.Prelude.{◌≡◌, ◌≤◌, ◌<◌, ◌++◌, IfOk, IfSome, IsTrue, List as Sequence, ℕ, length};
+ghost use Rattle.std.specs.Prelude.{◌≡◌, ◌≤◌, ◌<◌, IfOk, IsTrue, List as Sequence, ℕ, length};
 ghost use Rattle.std.specs.Option.{ForSome};
 ghost use Rattle.std.specs.Str.{IsAscii};
 ghost use Rattle.crew_calendar.specs.Table.{table};
-ghost use Rattle.desk_commands.specs.Calendars.{IsCalendarFile, IsCalendarRun, IsCalendarHanded, IsDated, calendar_order, ics, ics_of, seen_in, seen_texts, view_seen};
+ghost use Rattle.desk_commands.specs.Calendars.{IsCalendarFile, IsCalendarRun, IsCalendarHanded, IsDated, calendar_order, ics, ics_of};
 ghost use Rattle.desk_commands.specs.CalendarEnds.{CalendarCause, calendar_written};
 ghost use Rattle.duty_calendar.specs.Forms.{is_name};
-ghost use Rattle.month_files.specs.FileNames.{limit_of};
 ghost use Rattle.month_files.specs.Handing.{FromReads};
-ghost use Rattle.month_files.specs.Reading.{HasCause, Finds, view_texts, AreShort};
 ghost use Rattle.month_files.specs.Writes.{Leaves};
-ghost use Rattle.month_files.specs.declared.file.File.TheVariants.{Roster as RosterFile};
-ghost use Rattle.roster_text.specs.ReasonWords.{member_named};
 ghost use Rattle.roster_text.specs.RosterText.{IsRoster, member_name};
 ghost use Rattle.shelf.specs.Files.{Files};
 ghost use Rattle.shelf.specs.Logs.{Entries};
@@ -21,9 +17,9 @@ use crate::calendar_stop::{CalendarStop, Undated};
 use crew_calendar::{CalendarEntry, calendar_of, print_calendar};
 use duty_calendar::{List, Memory};
 use field_text::put_bytes;
-use month_files::{File, Texts, Unread, WriteStop, read_file, read_month, read_texts};
+use month_files::{WriteStop, read_month, read_seen};
 use roster_model::{Problem, Roster};
-use roster_text::read_roster;
+use roster_text::{member_named, read_roster};
 use shelf::{Shelf, ShelfFault};
 use std::alloc::Global;
 use std::str::from_utf8;
@@ -36,34 +32,6 @@ pub struct MemberCalendar {
     pub bytes: List<u8>,
     /// How many entries the calendar has.
     pub entries: u32,
-}
-
-/// The texts that are read: the inputs and the roster.
-#[tactic(auto, unfolding(crate::specs::Calendars::seen_in))]
-fn read_seen<S: Shelf>(alloc: Global, shelf: &mut S) -> Result<(Texts, Vec<u8>), Unread>
-    ensures cause { HasCause (S.tally shelf.old) (S.tally shelf.new) result }
-    ensures told { ForSome (S.holds shelf.old) (λ files. Finds view_seen result (seen_in files)) }
-    ensures short { IfOk result (λ x. AreShort (view_texts x.0)) }
-    ensures limit { IfOk result (λ x. length x.1.items ≤ limit_of RosterFile) }
-    ensures kept { S.holds shelf.new ≡ S.holds shelf.old }
-    ensures logged { IfOk result
-        (λ x. S.log shelf.new ≡ S.log shelf.old ++ seen_texts (view_seen x)) }
-{
-    let texts = read_texts(alloc, shelf)?;
-    let roster = read_file(alloc, shelf, File::Roster)?;
-    Ok((texts, roster))
-}
-
-/// The number of the member of this name.
-#[tactic(auto, unfolding(roster_text::specs::ReasonWords::member_named))]
-fn member_of(problem: &Problem, name: &[u8]) -> Option<usize>
-    ensures value { result ≡ member_named problem.now name.now }
-    ensures known { IfSome result (λ m. m < length problem.now.base.members) }
-{
-    let members = problem.base.members.as_slice();
-    members
-        .iter()
-        .position(|member| member.name.bytes() == name)
 }
 
 /// The name of a member.
@@ -188,7 +156,7 @@ pub fn calendar<S: Shelf>(
     let (texts, text) = read_seen(alloc, shelf)?;
     let problem = read_month(alloc, &texts)?;
     let roster = read_roster(alloc, &text, &problem)?;
-    let Some(member) = member_of(&problem, name) else {
+    let Some(member) = member_named(&problem, name) else {
         return Err(CalendarStop::No(Undated::Member));
     };
     let found = dated(alloc, &problem, &roster, member as u32)?;

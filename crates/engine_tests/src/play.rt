@@ -6,8 +6,8 @@
 //! and `FILE gone` say what the folder holds. What is printed ends with a line feed that is not written here; `...` in it
 //! stands for anything, and `@before` for what was printed before. A text is written as in a table of rows, or named by `@NAME`.
 
-use crate::rows::sides;
 use crate::runs::{content_of, numbers_of, put, run_over, shelf_of};
+use june_months::sides;
 use shelf::MemoryShelf;
 use std::alloc::Global;
 use std::process::Abort;
@@ -64,7 +64,7 @@ fn ran(
     step: &str,
     before: &str,
 ) -> String {
-    let (words, due) = sides(rt, step);
+    let (words, due) = sides(step).expect(rt, "a row has two sides");
     let (status, text) = due.split_once(' ').expect(rt, "a status");
     let outcome = run_over(
         rt,

@@ -13,4 +13,4 @@ pub use marks::put_mark;
 pub use place::{Place, cell_place, line_place, row_place, shape_place};
 pub use prose::Prose;
 pub use rows::{Cell, Row, cell_bytes, cells_of, rows_of};
-pub use times::{put_date, put_moment, put_stretch};
+pub use times::{month_name, put_date, put_moment, put_stretch};

@@ -4,7 +4,7 @@ use crate::prose::Prose;
 use duty_calendar::{Horizon, Memory, Weekday};
 
 /// The name of a month, 1 to 12.
-fn month_name(month: i8) -> &'static [u8] {
+pub fn month_name(month: u32) -> &'static [u8] {
     match month {
         1 => b"January",
         2 => b"February",
@@ -39,7 +39,7 @@ pub fn put_date(prose: &mut Prose, horizon: &Horizon, day: u32) -> Result<(), Me
     let date = horizon.date_of(day.min(372 + horizon.days()));
     prose.say(weekday_name(horizon.weekday(day.min(372 + horizon.days()))))?;
     prose.say(b", ")?;
-    prose.say(month_name(date.month()))?;
+    prose.say(month_name(u32::try_from(date.month()).unwrap_or(0)))?;
     prose.say(b" ")?;
     prose.number(u64::try_from(date.day()).unwrap_or(0))?;
     if date.year() != horizon.year() {

@@ -21,7 +21,8 @@ use Rattle.roster_text.specs.RowReading.{no_memory}
 use Rattle.month_commands.specs.declared.show_stop.ShowStop.{ShowStop}
 use Rattle.month_commands.specs.declared.show_stop.ShowStop.TheVariants as stop
 use Rattle.month_commands.specs.declared.show_stop.Unshown.TheVariants as unshown
-use Rattle.month_commands.specs.Show.{Seen, seen_in, seen_texts, showing_order, OfSight, IsShow, IsShowHanded}
+use Rattle.month_files.specs.Sights.{Seen, seen_in, seen_texts, OfSight}
+use Rattle.month_commands.specs.Show.{showing_order, IsShow, IsShowHanded}
 use Rattle.month_commands.specs.ShowEnds.{unread_roster, ShowCause}
 use Rattle.month_commands.proofs.HandedLaws.{held, inputs_held, then_ok}
 

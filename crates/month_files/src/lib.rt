@@ -16,6 +16,6 @@ pub use fault::{BadInput, InputFault};
 pub use file::File;
 pub use laws::texts_name_one_month;
 pub use month::read_month;
-pub use reading::{Texts, read_file, read_texts};
+pub use reading::{Texts, read_file, read_seen, read_texts};
 pub use unread::Unread;
 pub use writing::{Draft, Unwritten, WriteStop, write_all};

@@ -4,6 +4,8 @@ ghost use Rattle.month_files.specs.FileNames.{limit_of};
 ghost use Rattle.std.specs.Option.{ForSome};
 ghost use Rattle.month_files.specs.Handing.{with_text, input_texts};
 ghost use Rattle.month_files.specs.Reading.{HasCause, Finds, text_in, texts_in, view_texts, AreShort};
+ghost use Rattle.month_files.specs.Sights.{seen_in, seen_texts, view_seen};
+ghost use Rattle.month_files.specs.declared.file.File.TheVariants.{Roster as RosterFile};
 
 use crate::file::File;
 use crate::unread::Unread;
@@ -70,4 +72,20 @@ pub fn read_texts<S: Shelf>(alloc: Global, shelf: &mut S) -> Result<Texts, Unrea
         fixed,
         bids,
     })
+}
+
+/// The bytes of the eight inputs and of the roster, read in this order.
+#[tactic(auto, unfolding(crate::specs::Sights::seen_in))]
+pub fn read_seen<S: Shelf>(alloc: Global, shelf: &mut S) -> Result<(Texts, Vec<u8>), Unread>
+    ensures cause { HasCause (S.tally shelf.old) (S.tally shelf.new) result }
+    ensures told { ForSome (S.holds shelf.old) (λ files. Finds view_seen result (seen_in files)) }
+    ensures short { IfOk result (λ x. AreShort (view_texts x.0)) }
+    ensures limit { IfOk result (λ x. length x.1.items ≤ limit_of RosterFile) }
+    ensures kept { S.holds shelf.new ≡ S.holds shelf.old }
+    ensures logged { IfOk result
+        (λ x. S.log shelf.new ≡ S.log shelf.old ++ seen_texts (view_seen x)) }
+{
+    let texts = read_texts(alloc, shelf)?;
+    let roster = read_file(alloc, shelf, File::Roster)?;
+    Ok((texts, roster))
 }

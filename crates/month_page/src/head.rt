@@ -2,7 +2,8 @@
 
 use crate::style::STYLE;
 use duty_calendar::{Base, Horizon, Memory, Rules};
-use page_parts::{FIRST_DAY, Html, is_weekend, month_name, put_style};
+use file_places::month_name;
+use page_parts::{FIRST_DAY, Html, is_weekend, put_style};
 
 /// Appends the base, the seat and the month.
 pub fn put_title(html: &mut Html, rules: &Rules) -> Result<(), Memory> {

@@ -105,14 +105,38 @@ fn line_of(roster: &Roster, member: u32) -> &[u32] {
     }
 }
 
-/// Adds the moves of a pairing of a member to others.
-fn push_gifts(
+/// Adds the swaps of a pairing for those of another member.
+fn push_swaps(
+    alloc: Global,
+    problem: &Problem,
+    roster: &Roster,
+    found: &mut Vec<Trade>,
+    gift: Gift,
+) -> Result<(), Memory>
+    requires complete { IsComplete problem.now roster.now }
+{
+    for taken in line_of(roster, gift.receiver) {
+        push_swap(alloc, problem, roster, found, gift, *taken)?;
+    }
+    Ok(())
+}
+
+/// What a member can do with a pairing: give it to another, or swap it for one of another's.
+#[derive(Clone, Copy)]
+enum Offer {
+    Give,
+    Swap,
+}
+
+/// Adds what can be done with a pairing of a member, to or with each other member.
+fn push_offers(
     alloc: Global,
     problem: &Problem,
     roster: &Roster,
     found: &mut Vec<Trade>,
     giver: u32,
     pairing: u32,
+    offer: Offer,
 ) -> Result<(), Memory>
     requires complete { IsComplete problem.now roster.now }
 {
@@ -122,12 +146,32 @@ fn push_gifts(
             pairing,
             receiver,
         };
-        push_move(alloc, problem, roster, found, gift)?;
+        match offer {
+            Offer::Give => push_move(alloc, problem, roster, found, gift)?,
+            Offer::Swap => push_swaps(alloc, problem, roster, found, gift)?,
+        }
     }
     Ok(())
 }
 
-/// The moves of a pairing of a member that would be taken.
+/// The offers of a kind of a member that would be taken.
+fn offers_of(
+    alloc: Global,
+    problem: &Problem,
+    roster: &Roster,
+    member: u32,
+    offer: Offer,
+) -> Result<Vec<Trade>, Memory>
+    requires complete { IsComplete problem.now roster.now }
+{
+    let mut found = Vec::new(alloc);
+    for pairing in line_of(roster, member) {
+        push_offers(alloc, problem, roster, &mut found, member, *pairing, offer)?;
+    }
+    Ok(found)
+}
+
+/// The moves of a pairing of the member that would be taken.
 pub fn gifts_of(
     alloc: Global,
     problem: &Problem,
@@ -136,11 +180,19 @@ pub fn gifts_of(
 ) -> Result<Vec<Trade>, Memory>
     requires complete { IsComplete problem.now roster.now }
 {
-    let mut found = Vec::new(alloc);
-    for pairing in line_of(roster, member) {
-        push_gifts(alloc, problem, roster, &mut found, member, *pairing)?;
-    }
-    Ok(found)
+    offers_of(alloc, problem, roster, member, Offer::Give)
+}
+
+/// The swaps of a member that would be taken.
+pub fn swaps_of(
+    alloc: Global,
+    problem: &Problem,
+    roster: &Roster,
+    member: u32,
+) -> Result<Vec<Trade>, Memory>
+    requires complete { IsComplete problem.now roster.now }
+{
+    offers_of(alloc, problem, roster, member, Offer::Swap)
 }
 
 /// Adds the moves of a member's pairings to another.
@@ -177,60 +229,6 @@ pub fn takes_of(
     let mut found = Vec::new(alloc);
     for giver in 0..problem.base.members.len() as u32 {
         push_taken(alloc, problem, roster, &mut found, giver, member)?;
-    }
-    Ok(found)
-}
-
-/// Adds the swaps of a pairing for those of another member.
-fn push_swaps(
-    alloc: Global,
-    problem: &Problem,
-    roster: &Roster,
-    found: &mut Vec<Trade>,
-    gift: Gift,
-) -> Result<(), Memory>
-    requires complete { IsComplete problem.now roster.now }
-{
-    for taken in line_of(roster, gift.receiver) {
-        push_swap(alloc, problem, roster, found, gift, *taken)?;
-    }
-    Ok(())
-}
-
-/// Adds the swaps of a pairing of a member.
-fn push_all_swaps(
-    alloc: Global,
-    problem: &Problem,
-    roster: &Roster,
-    found: &mut Vec<Trade>,
-    giver: u32,
-    pairing: u32,
-) -> Result<(), Memory>
-    requires complete { IsComplete problem.now roster.now }
-{
-    for receiver in 0..problem.base.members.len() as u32 {
-        let gift = Gift {
-            giver,
-            pairing,
-            receiver,
-        };
-        push_swaps(alloc, problem, roster, found, gift)?;
-    }
-    Ok(())
-}
-
-/// The swaps of a member that would be taken.
-pub fn swaps_of(
-    alloc: Global,
-    problem: &Problem,
-    roster: &Roster,
-    member: u32,
-) -> Result<Vec<Trade>, Memory>
-    requires complete { IsComplete problem.now roster.now }
-{
-    let mut found = Vec::new(alloc);
-    for pairing in line_of(roster, member) {
-        push_all_swaps(alloc, problem, roster, &mut found, member, *pairing)?;
     }
     Ok(found)
 }

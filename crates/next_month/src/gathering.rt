@@ -7,36 +7,9 @@ ghost use Rattle.next_month.specs.Carrying.{all_carried};
 ghost use Rattle.next_month.specs.Heirs.{events_by, place_named};
 
 use crate::carrying::push_carried;
-use duty_calendar::{Duty, Event, Flown, Kind, Leg, List, Member, Memory, Pairing};
-use roster_model::{Line, Problem, Roster};
+use duty_calendar::{Duty, Event, Member, Memory, Pairing};
+use roster_model::{Line, Problem, Roster, duty_event};
 use std::alloc::Global;
-
-/// The flights of some legs.
-fn flights_of(alloc: Global, legs: &[Leg]) -> Result<List<Flown>, Memory>
-    ensures flights { IfOk result (λ flights. flights ≡ map (λ l. l.flown) legs.now) }
-{
-    let mut flights = List::new(alloc);
-    for leg in legs {
-        if flights.push(leg.flown).is_err() {
-            return Err(Memory::NoMemory);
-        }
-    }
-    Ok(flights)
-}
-
-/// A duty as an event.
-fn duty_event(alloc: Global, duty: &Duty) -> Result<Event, Memory>
-    ensures event { IfOk result (λ event. event ≡ duty_event duty.now) }
-{
-    Ok(Event {
-        kind: Kind::Flight,
-        report: duty.report,
-        parked: duty.parked,
-        release: duty.release,
-        flights: flights_of(alloc, duty.legs.as_slice())?,
-        credit: 0,
-    })
-}
 
 /// Appends what is carried of events.
 fn push_events(

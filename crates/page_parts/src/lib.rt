@@ -14,6 +14,4 @@ pub use escaping::put_escaped;
 pub use foot::{FileSum, hex_of, put_foot, sum_of};
 pub use html::Html;
 pub use style::put_style;
-pub use times::{
-    FIRST_DAY, MONTH_START, is_weekend, month_name, put_date, put_moment, put_span, put_weekday,
-};
+pub use times::{FIRST_DAY, MONTH_START, is_weekend, put_date, put_moment, put_span, put_weekday};

@@ -4,30 +4,13 @@ ghost use Rattle.duty_calendar.specs.Calendar.{month_days};
 
 use crate::html::Html;
 use duty_calendar::{Horizon, Interval, Memory, Weekday};
+use file_places::month_name;
 
 /// The first minute of the month.
 pub const MONTH_START: u32 = 525_600;
 
 /// The first day of the month.
 pub const FIRST_DAY: u32 = 365;
-
-/// The name of a month, 1 to 12.
-pub fn month_name(month: u32) -> &'static [u8] {
-    match month {
-        1 => b"January",
-        2 => b"February",
-        3 => b"March",
-        4 => b"April",
-        5 => b"May",
-        6 => b"June",
-        7 => b"July",
-        8 => b"August",
-        9 => b"September",
-        10 => b"October",
-        11 => b"November",
-        _ => b"December",
-    }
-}
 
 /// The first three letters of a day of the week.
 fn weekday_letters(weekday: Weekday) -> &'static [u8] {

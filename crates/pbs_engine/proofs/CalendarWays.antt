@@ -4,7 +4,8 @@ use Rattle.std.specs.Prelude.{◌⊎◌}
 use Rattle.shelf.specs.Files.{Files}
 use Rattle.crew_calendar.specs.Seen.{Entry}
 use Rattle.crew_calendar.specs.Table.{table}
-use Rattle.desk_commands.specs.Calendars.{Seen, seen_in, HasBadSight, IsCalendarFile, IsUndated}
+use Rattle.month_files.specs.Sights.{Seen, seen_in, HasBadSight}
+use Rattle.desk_commands.specs.Calendars.{IsCalendarFile, IsUndated}
 use Rattle.desk_commands.specs.declared.calendar_stop.Undated.{Undated}
 use Rattle.desk_commands.specs.declared.calendar_stop.Undated.TheVariants as undated
 use Rattle.desk_commands.specs.declared.calendars.MemberCalendar.{MemberCalendar}

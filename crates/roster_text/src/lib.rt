@@ -20,4 +20,4 @@ pub use printing::print_roster;
 pub use reading::read_roster;
 pub use reason_fault::{ReasonTextCode, ReasonTextFault};
 pub use reason_printing::print_reasons;
-pub use reason_reading::read_reasons;
+pub use reason_reading::{member_named, read_reasons};

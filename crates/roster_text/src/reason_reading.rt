@@ -20,9 +20,9 @@ use field_text::{put_bytes, put_number};
 use roster_model::{BidRef, Cause, Denial, Problem, Reasons};
 use std::alloc::Global;
 
-/// The member of this name.
+/// The number of the member of this name, counted from 0.
 #[tactic(auto, unfolding(crate::specs::ReasonWords::member_named))]
-fn member_named(problem: &Problem, word: &[u8]) -> Option<usize>
+pub fn member_named(problem: &Problem, word: &[u8]) -> Option<usize>
     ensures value { result ≡ member_named problem.now word.now }
     ensures known { IfSome result (λ m. m < length problem.now.base.members) }
 {

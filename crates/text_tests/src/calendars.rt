@@ -3,9 +3,9 @@ ghost use Rattle.std.specs.Prelude.{◌≡◌, ◌<◌, length, All};
 
 use crate::fixtures::smallest;
 use crate::rosters::roster_of;
-use crate::rows::{bytes_of, sides};
 use crate::texts::joined;
 use crew_calendar::{calendar_laws, calendar_of, print_calendar, read_calendar};
+use june_months::{bytes_of, sides};
 use roster_model::{Problem, Roster};
 use std::alloc::Global;
 use std::process::Abort;
@@ -128,7 +128,7 @@ fn assert_fault(rt: &impl Abort, alloc: Global, text: &[u8], due: &str) {
 /// Says what is the fault of each row behind a text.
 fn assert_faults(rt: &impl Abort, alloc: Global, front: &[u8], rows: &str) {
     for row in rows.lines() {
-        let (text, due) = sides(rt, row);
+        let (text, due) = sides(row).expect(rt, "a row has two sides");
         assert_fault(
             rt,
             alloc,

@@ -3,7 +3,6 @@ ghost use Rattle.csv.specs.Records.{fields_of};
 ghost use Rattle.field_text.specs.Records.{AreWithin};
 ghost use Rattle.field_text.specs.Sizes.{longest};
 
-use crate::rows::sides;
 use csv::ByteRecord;
 use duty_calendar::{Horizon, List};
 use field_text::{
@@ -12,6 +11,7 @@ use field_text::{
     read_name, read_number, read_station, text_at, tokens,
 };
 use jiff::civil::Date;
+use june_months::sides;
 use std::alloc::Global;
 use std::process::Abort;
 
@@ -143,7 +143,7 @@ station  => an empty field";
 
 /// Says what is read of a kind and a text.
 fn assert_read(rt: &impl Abort, alloc: Global, row: &str) {
-    let (field, due) = sides(rt, row);
+    let (field, due) = sides(row).expect(rt, "a row has two sides");
     let (kind, text) = field.split_once(' ').expect(rt, "a kind");
     let found = told(rt, alloc, read_of(rt, kind, text));
     assert!(rt; found.as_str() == due, "{row}");

@@ -1,10 +1,10 @@
 //! The three files of members, and what is wrong with them.
 
-use crate::rows::{bytes_of, sides};
 use crate::texts::{digit, joined, numbered};
 use crew_files::read_members;
 use duty_calendar::{Horizon, List, Member};
 use field_text::{FileCode, FileFault, FileName};
+use june_months::{bytes_of, sides};
 use std::alloc::Global;
 use std::process::Abort;
 
@@ -96,7 +96,7 @@ member,low,high\n"M\n1",0:00,1:00\n => Crew row 2: field 1: no field of this for
 #[test]
 fn crew_faults(rt: HostRuntime) {
     for row in CREW_FAULTS.lines() {
-        let (crew, due) = sides(&rt, row);
+        let (crew, due) = sides(row).expect(&rt, "a row has two sides");
         let crew = bytes_of(rt.alloc(), crew);
         assert_told(&rt, rt.alloc(), (&crew, NONE, NONE), due);
     }
@@ -141,7 +141,7 @@ M1,flight,2026-05-01T08:00Z,2026-05-01T14:00Z,2026-05-01T14:30Z,2026-05-01T08:00
 #[test]
 fn history_faults(rt: HostRuntime) {
     for row in HISTORY_FAULTS.lines() {
-        let (events, due) = sides(&rt, row);
+        let (events, due) = sides(row).expect(&rt, "a row has two sides");
         let history = joined(rt.alloc(), NONE, &bytes_of(rt.alloc(), events));
         assert_told(&rt, rt.alloc(), (CREW, &history, b""), due);
     }
@@ -166,7 +166,7 @@ const PAST: &[u8] =
 #[test]
 fn faults_of_later_rows(rt: HostRuntime) {
     for row in LATER_FAULTS.lines() {
-        let (events, due) = sides(&rt, row);
+        let (events, due) = sides(row).expect(&rt, "a row has two sides");
         let fixed = joined(rt.alloc(), NONE, &bytes_of(rt.alloc(), events));
         assert_told(&rt, rt.alloc(), (CREW, PAST, &fixed), due);
     }

@@ -1,10 +1,10 @@
 //! The three files of pairings, read and written.
 ghost use Rattle.duty_calendar.specs.Checks.{ArePairings};
 
-use crate::rows::{bytes_of, sides};
 use crate::texts::numbered;
 use duty_calendar::{Horizon, List, Memory, Pairing};
 use field_text::{FileCode, FileFault, FileName};
+use june_months::{bytes_of, sides};
 use pairing_files::{PairingTexts, put_pairings, read_pairings};
 use std::alloc::Global;
 use std::process::Abort;
@@ -80,7 +80,7 @@ pairing,need,credit\nP1,1,5:00\nP2,9,200:00\nP3,1,0:00\n => Pairings row 4: with
 #[test]
 fn faults_of_pairings(rt: HostRuntime) {
     for row in PAIRING_FAULTS.lines() {
-        let (text, due) = sides(&rt, row);
+        let (text, due) = sides(row).expect(&rt, "a row has two sides");
         let text = bytes_of(rt.alloc(), text);
         assert_told(&rt, rt.alloc(), (&text, DUTIES, LEGS), due);
     }
@@ -112,7 +112,7 @@ pairing,no,report,parked,release,layover\nP1,1,2026-06-10T08:00Z,2026-06-10T12:0
 #[test]
 fn faults_of_duties(rt: HostRuntime) {
     for row in DUTY_FAULTS.lines() {
-        let (text, due) = sides(&rt, row);
+        let (text, due) = sides(row).expect(&rt, "a row has two sides");
         let text = bytes_of(rt.alloc(), text);
         assert_told(&rt, rt.alloc(), (PAIRINGS, &text, LEGS), due);
     }
@@ -155,7 +155,7 @@ pairing,no,from,to,out,in\nP1,1,DUB,ORD,2026-06-10T09:00Z,2026-06-10T11:00Z\nP3,
 #[test]
 fn faults_of_legs(rt: HostRuntime) {
     for row in LEG_FAULTS.lines() {
-        let (text, due) = sides(&rt, row);
+        let (text, due) = sides(row).expect(&rt, "a row has two sides");
         let text = bytes_of(rt.alloc(), text);
         assert_told(&rt, rt.alloc(), (PAIRINGS, DUTIES, &text), due);
     }

@@ -2,7 +2,7 @@
 ghost use Rattle.std.specs.Prelude.{◌≡◌, ◌<◌, length, All};
 
 use crate::fixtures::smallest;
-use crate::rows::{bytes_of, sides};
+use june_months::{bytes_of, sides};
 use roster_model::{BidRef, Cause, Denial, Problem, Roster};
 use roster_text::{
     print_reasons, print_roster, read_reasons, read_roster, reasons_texts_are_told_apart,
@@ -68,7 +68,7 @@ fn reads_and_prints_the_smallest_month(rt: HostRuntime) {
 
 /// Says what is the first fault of a roster's text.
 fn assert_fault(rt: &impl Abort, alloc: Global, problem: &Problem, row: &str) {
-    let (text, due) = sides(rt, row);
+    let (text, due) = sides(row).expect(rt, "a row has two sides");
     let fault = read_roster(alloc, &bytes_of(alloc, text), problem)
         .err()
         .expect(rt, "it has a fault");
@@ -151,7 +151,7 @@ fn reads_and_prints_reasons(rt: HostRuntime) {
 
 /// Says what is the first fault of a text of reasons.
 fn assert_reason_fault(rt: &impl Abort, alloc: Global, problem: &Problem, row: &str) {
-    let (text, due) = sides(rt, row);
+    let (text, due) = sides(row).expect(rt, "a row has two sides");
     let text = bytes_of(alloc, text);
     assert!(rt; text.len() <= 100);
     let fault = read_reasons(alloc, &text, problem)

@@ -1,11 +1,10 @@
 //! What the texts ask.
-ghost use Rattle.std.specs.Prelude.{◌≡◌, ◌<◌, ℕ, List as Sequence, true, Ok, IfOk, IfErr, IfSome, length};
+ghost use Rattle.std.specs.Prelude.{◌≡◌, ◌<◌, ℕ, List as Sequence, true, Ok, IfOk, IfErr, length};
 ghost use Rattle.cert_text.specs.Limits.{is_certificate};
 ghost use Rattle.cert_text.specs.Reading.{certificate_in};
 ghost use Rattle.month_files.specs.Months.{Names};
 ghost use Rattle.month_files.specs.Reading.{AreShort, view_texts};
 ghost use Rattle.roster_model.specs.declared.award.Certificate.TheVariants.{Award as AwardForm};
-ghost use Rattle.roster_text.specs.ReasonWords.{member_named};
 ghost use Rattle.whatif_commands.specs.Asking.{IsQuestion, IsUnasked, NamesMember, NamesTwo};
 ghost use Rattle.whatif_commands.specs.AskingTexts.{view_asked, AreBrief};
 
@@ -16,6 +15,7 @@ use cert_text::read_certificate;
 use duty_calendar::Copied;
 use month_files::read_month;
 use roster_model::{Awarded, Certificate, Problem};
+use roster_text::member_named;
 use std::alloc::Global;
 
 /// What is asked: the month, the same month with the other bids, the number of the member who may bid otherwise, and
@@ -26,18 +26,6 @@ pub struct Question {
     pub other: Problem,
     pub member: u32,
     pub awarded: Awarded,
-}
-
-/// The number of the member of this name.
-#[tactic(auto, unfolding(roster_text::specs::ReasonWords::member_named))]
-fn member_of(problem: &Problem, name: &[u8]) -> Option<usize>
-    ensures value { result ≡ member_named problem.now name.now }
-    ensures known { IfSome result (λ m. m < length problem.now.base.members) }
-{
-    let members = problem.base.members.as_slice();
-    members
-        .iter()
-        .position(|member| member.name.bytes() == name)
 }
 
 /// The month with the other bids.
@@ -77,7 +65,7 @@ pub(crate) fn ask(alloc: Global, texts: &AskedTexts, name: &[u8]) -> Result<Ques
 {
     let problem = read_month(alloc, &texts.inputs)?;
     let other = other_month(alloc, texts, &problem)?;
-    let Some(member) = member_of(&problem, name) else {
+    let Some(member) = member_named(&problem, name) else {
         return Err(WhatIfStop::No(Unasked::Member));
     };
     let awarded = award_of(alloc, texts)?;

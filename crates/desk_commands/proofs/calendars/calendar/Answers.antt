@@ -4,7 +4,8 @@ use Rattle.roster_text.specs.RosterText.{member_name}
 use Rattle.desk_commands.specs.declared.calendars.MemberCalendar.{MemberCalendar}
 use Rattle.std.proofs.lemmas.Result.{err_from_is_err_and}
 use Rattle.roster_text.specs.RosterFaults.{HasFault}
-use Rattle.desk_commands.specs.Calendars.{view_seen, IsDated}
+use Rattle.month_files.specs.Sights.{view_seen}
+use Rattle.desk_commands.specs.Calendars.{IsDated}
 use Rattle.desk_commands.proofs.CalendarLaws.{ends_at_month, ends_at_roster, ends_at_nobody, ends_at_no_events, is_file, handed_month, handed_roster, handed_nobody, handed_no_events, handed_file}
 use Rattle.desk_commands.proofs.calendars.calendar.Goals as goal
 

@@ -1,7 +1,7 @@
 use Rattle.std.proofs.Common.{ℕ, List, refl, sym, subst, ◌∙◌}
 use Rattle.std.proofs.lemmas.Result.{err_from_is_err_and}
 use Rattle.roster_text.specs.RosterFaults.{HasFault}
-use Rattle.month_commands.specs.Show.{view_seen}
+use Rattle.month_files.specs.Sights.{view_seen}
 use Rattle.month_commands.proofs.ShowLaws.{ends_at_month, ends_at_roster, ends_at_nobody, ends_in_view, handed_month, handed_roster, handed_nobody, handed_view}
 use Rattle.month_commands.proofs.showing.show.Goals as goal
 

@@ -4,7 +4,7 @@ use Rattle.month_files.specs.Handing.{input_texts}
 use Rattle.month_files.specs.Reading.{view_texts}
 use Rattle.month_files.specs.FileNames.{name_of}
 use Rattle.month_files.specs.declared.file.File.TheVariants.{Roster}
-use Rattle.desk_commands.proofs.calendars.read_seen.Goals as goal
+use Rattle.month_files.proofs.reading.read_seen.Goals as goal
 
 pub returns-clause-logged : goal.returns-clause-logged
 returns-clause-logged g c =

@@ -1,27 +1,26 @@
 //! Rows of a table: what is tried, an arrow, and what is to come of it.
 
 use std::alloc::Global;
-use std::process::Abort;
 
-/// The two sides of a row.
-pub(crate) fn sides<'a>(rt: &impl Abort, row: &'a str) -> (&'a str, &'a str) {
-    row.split_once(" => ").expect(rt, "a row has two sides")
+/// The two sides of a row, if it has an arrow.
+pub fn sides(row: &str) -> Option<(&str, &str)> {
+    row.split_once(" => ")
 }
 
-/// What stands in the block of this name, of blocks with an empty line between them.
-pub(crate) fn block_of<'a>(rt: &impl Abort, blocks: &'a str, name: &str) -> &'a str {
+/// What stands in the block of this name, if there is one, of blocks with an empty line between them.
+pub fn block_of<'a>(blocks: &'a str, name: &str) -> Option<&'a str> {
     for block in blocks.split("\n\n") {
         if let Some((head, rest)) = block.split_once('\n') {
             if head == name {
-                return rest;
+                return Some(rest);
             }
         }
     }
-    panic!(rt; "{name}");
+    None
 }
 
 /// The bytes that a side says: `\n`, `\r` and `\t` are as in Rust, and two digits of base 16 behind a `\` are a byte.
-pub(crate) fn bytes_of(alloc: Global, side: &str) -> Vec<u8> {
+pub fn bytes_of(alloc: Global, side: &str) -> Vec<u8> {
     let mut bytes = Vec::new(alloc);
     let mut state = PLAIN;
     for byte in side.as_bytes() {
