@@ -23,7 +23,7 @@ pub(crate) struct Planned {
 
 /// What a plan says of a node.
 #[derive(Drop)]
-enum Planning {
+pub(crate) enum Planning {
     /// The decisions alone close it.
     Decided,
     /// This closes it.
@@ -36,21 +36,37 @@ enum Planning {
 
 /// Whether there is a node to go on with.
 #[derive(Clone, Copy)]
-enum Going {
+pub(crate) enum Going {
     On,
     Done,
     Lost,
 }
 
-/// A tree that grows node by node: the next node, the guesses so far, and how many nodes are split.
+/// A tree that grows node by node: the next node, the guesses so far, and how many more nodes may be split.
 #[derive(Drop)]
-struct Tree {
-    node: Node,
+pub(crate) struct Tree {
+    pub node: Node,
     plan: Vec<Planned>,
     splits: usize,
 }
 
 impl Tree {
+    /// The empty node alone, of a tree in which so many nodes may be split.
+    pub(crate) fn new(alloc: Global, splits: usize) -> Tree {
+        Tree {
+            node: Node::new(alloc),
+            plan: Vec::new(alloc),
+            splits,
+        }
+    }
+
+    /// The guesses, the first one last.
+    pub(crate) fn planned(self) -> Vec<Planned> {
+        let mut plan = self.plan;
+        plan.reverse();
+        plan
+    }
+
     /// Adds a guess at the node.
     fn push(&mut self, guess: Guess) -> Result<(), Memory> {
         let depth = self.node.len();
@@ -68,7 +84,7 @@ impl Tree {
     }
 
     /// Adds what there is to say of the node.
-    fn add(&mut self, planning: Planning) -> Result<Going, Memory> {
+    pub(crate) fn add(&mut self, planning: Planning) -> Result<Going, Memory> {
         match planning {
             Planning::Decided => Ok(self.turn()),
             Planning::Leaf(guess) => {
@@ -77,10 +93,10 @@ impl Tree {
             }
             Planning::Split(guess, decision) => {
                 self.push(guess)?;
-                self.splits = self.splits.saturating_add(1);
-                if self.splits > SPLITS || self.node.decide(decision).is_err() {
+                if self.splits == 0 || self.node.decide(decision).is_err() {
                     return Ok(Going::Lost);
                 }
+                self.splits = self.splits.saturating_sub(1);
                 Ok(Going::On)
             }
             Planning::Lost => Ok(Going::Lost),
@@ -142,7 +158,7 @@ fn is_misfit(
 }
 
 /// Whether crews or decided lines close the node.
-fn is_decided(
+pub(crate) fn is_decided(
     alloc: Global,
     problem: &Problem,
     kept: &mut Kept,
@@ -164,7 +180,7 @@ fn is_decided(
 
 impl MixGuide {
     /// The split of a node that the mix leaves open.
-    fn split(
+    pub(crate) fn split(
         &mut self,
         alloc: Global,
         problem: &Problem,
@@ -228,20 +244,13 @@ impl MixGuide {
     ) -> Result<Vec<Planned>, Memory>
         requires goal { IsGoal problem.now goal.now }
     {
-        let mut tree = Tree {
-            node: Node::new(alloc),
-            plan: Vec::new(alloc),
-            splits: 0,
-        };
+        let mut tree = Tree::new(alloc, SPLITS);
         for _ in 0..PLANNED {
             let board = Board::of(alloc, problem, &tree.node)?;
             let planning = self.planned(alloc, problem, goal, &board, tree.node.len())?;
             match tree.add(planning)? {
                 Going::On => {}
-                Going::Done => {
-                    tree.plan.reverse();
-                    return Ok(tree.plan);
-                }
+                Going::Done => return Ok(tree.planned()),
                 Going::Lost => return Ok(Vec::new(alloc)),
             }
         }

@@ -1,8 +1,13 @@
 //! Bounds of single guesses, each with its unit and what it was measured by; effort.rt has what is spent on a goal. No other file
 //! of this crate or of node_guesses has one; those of mixes and of choices of kept lines stand in the crates of these.
 
-/// How many steps a brief search for a line may take, and how often a lens is made to look at more.
+/// How many steps a brief search for a line may take, a close one in a large month, and how often a lens is made to look at more.
+/// Where a close search ends at its limit, an illegal line may be answered, and a node stands open by a mix of such lines. With 1,000,000
+/// steps, as in other months, that was so at the root of the 28th of 30 places for 26 levels, and no tree ended there; with 20,000,000 the
+/// next place took five times as long.
 pub(crate) const BRIEF: u64 = 5_000;
+
+pub(crate) const CLOSE: u64 = 3_000_000;
 
 pub(crate) const RUNGS: u32 = 24;
 
@@ -50,6 +55,9 @@ pub const AGAIN: u32 = 8;
 pub const PLANNED: usize = 25;
 
 pub const SPLITS: usize = 12;
+/// How many nodes of a tree are walked ahead of the search in a large month: a node without what shows that it is open takes 0.05 s at
+/// 40 members, and 0.18 s with it.
+pub const PLUNGED: usize = 400;
 /// Where a node is split, a share of 65,536 that is no more than this counts as none, and one that lacks no more counts as whole.
 pub const NO_PART: i64 = 655;
 /// How many pairs are looked at by programs where a node is split (strong branching), and how often something may come into each

@@ -4,10 +4,10 @@ ghost use Rattle.std.specs.Prelude.{◌≡◌};
 ghost use Rattle.roster_model.specs.Goals.{IsGoal};
 
 use crate::flat_pricing::{is_flat, price_flat};
-use crate::limits::{BRIEF, RUNGS};
+use crate::limits::{BRIEF, CLOSE, RUNGS};
 use crate::tested::row_over;
 use duty_calendar::Memory;
-use flat_search::{Care, Pricing, first_lens, lately, make_finer, number, refine};
+use flat_search::{Care, Pricing, first_lens, is_large, lately, make_finer, number, refine};
 use line_generator::{Over, PricedLine};
 use line_mixes::Kept;
 use roster_model::{Lens, Problem};
@@ -110,6 +110,15 @@ fn known_lens(
     Ok(if over <= asked.over { Some(lens) } else { None })
 }
 
+/// How many steps a search with this care may take.
+fn most_steps(problem: &Problem, care: Care) -> u64 {
+    if care == Care::Fine && is_large(problem) {
+        CLOSE
+    } else {
+        care.steps()
+    }
+}
+
 /// As `price`, by a ladder that begins with this lens, each search with so many steps.
 fn price_from(
     alloc: Global,
@@ -125,7 +134,8 @@ fn price_from(
     let member = asked.member;
     let mut lens = lens;
     care.adjust(problem, member, asked.goal, &mut lens);
-    let steps = if lens.whole { care.steps() } else { steps };
+    let most = most_steps(problem, care);
+    let steps = if lens.whole { most } else { steps };
     let mut found = Priced::Unknown;
     for _ in 0..RUNGS {
         let priced = match row_over(alloc, problem, asked, &lens, steps)? {
@@ -134,7 +144,7 @@ fn price_from(
                 note(alloc, kept, asked, care, &lens)?;
                 return Ok(Priced::Nothing(lens));
             }
-            Over::Limit if steps < care.steps() => return Ok(Priced::Unknown),
+            Over::Limit if steps < most => return Ok(Priced::Unknown),
             Over::Limit => {
                 kept.look_through(member, first_lens(alloc, problem, member));
                 return Ok(found);
@@ -172,7 +182,8 @@ pub fn price(
         return price_flat(alloc, problem, kept, asked);
     }
     let lens = kept.lens(alloc, problem, asked.member)?;
-    price_from(alloc, problem, kept, asked, care, lens, care.steps())
+    let steps = most_steps(problem, care);
+    price_from(alloc, problem, kept, asked, care, lens, steps)
 }
 
 /// As `price`, with few steps where lenses look at pairings one by one, and no answer where these do not suffice.
@@ -209,7 +220,8 @@ pub(crate) fn price_afresh(
     let member = asked.member;
     let before = kept.lens(alloc, problem, member)?;
     let lens = first_lens(alloc, problem, member);
-    let priced = price_from(alloc, problem, kept, asked, care, lens, care.steps())?;
+    let steps = most_steps(problem, care);
+    let priced = price_from(alloc, problem, kept, asked, care, lens, steps)?;
     kept.look_through(member, before);
     Ok(priced)
 }
