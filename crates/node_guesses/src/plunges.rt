@@ -4,7 +4,7 @@ ghost use Rattle.std.specs.Prelude.{◌≡◌};
 ghost use Rattle.roster_model.specs.Goals.{IsGoal};
 
 use crate::guide::MixGuide;
-use crate::plans::{Going, Planned, Planning, Tree, is_decided};
+use crate::plans::{Going, Planned, Planning, Tree, is_decided, next_planned};
 use closer_guide::Guess;
 use duty_calendar::Memory;
 use flat_search::Board;
@@ -15,7 +15,7 @@ use std::alloc::Global;
 
 /// What a plunge finds: a roster, or what there is to say of the first nodes of the tree, the first one last.
 #[derive(Drop)]
-pub(crate) enum Plunged {
+enum Plunged {
     Roster(Roster),
     Tree(Vec<Planned>),
 }
@@ -57,7 +57,7 @@ impl MixGuide {
     }
 
     /// Walks the tree of the goal, whose empty node the mix leaves open.
-    pub(crate) fn plunge(
+    fn plunge(
         &mut self,
         alloc: Global,
         problem: &Problem,
@@ -83,5 +83,26 @@ impl MixGuide {
             }
         }
         Ok(Plunged::Tree(tree.planned()))
+    }
+
+    /// The guess at the empty node of a large month that the mix leaves open: a roster, or the first guess of a tree,
+    /// whose others are planned.
+    pub(crate) fn ahead(
+        &mut self,
+        alloc: Global,
+        problem: &Problem,
+        goal: &Goal,
+        board: &Board,
+        mix: Mix,
+    ) -> Result<Guess, Memory>
+        requires goal { IsGoal problem.now goal.now }
+    {
+        match self.plunge(alloc, problem, goal, board, mix)? {
+            Plunged::Roster(roster) => Ok(Guess::Whole(roster)),
+            Plunged::Tree(plan) => {
+                self.plan = plan;
+                Ok(next_planned(&mut self.plan, 0).unwrap_or(Guess::Nothing))
+            }
+        }
     }
 }
