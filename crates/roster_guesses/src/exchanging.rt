@@ -51,7 +51,7 @@ fn first_place(kept: &Kept, task: Task, mix: &Mix, member: usize) -> Option<usiz
 }
 
 /// What the pairings weigh together.
-fn weigh(pairings: &[u32], weights: &[i64]) -> i64 {
+pub(crate) fn weigh(pairings: &[u32], weights: &[i64]) -> i64 {
     let mut sum: i64 = 0;
     for pairing in pairings {
         sum = sum.wrapping_add(weights.get(*pairing as usize).copied().unwrap_or(0));

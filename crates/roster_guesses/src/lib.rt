@@ -12,6 +12,7 @@ mod leaves;
 mod lenses;
 mod limits;
 mod mastering;
+mod pooling;
 mod pricing;
 mod relaxing;
 mod repairing;

@@ -4,6 +4,7 @@ ghost use Rattle.std.specs.Prelude.{◌≡◌};
 ghost use Rattle.roster_model.specs.Goals.{IsGoal};
 
 use crate::limits::DEAR;
+use crate::pooling::join_kept;
 use crate::pricing::{Priced, price, price_briefly};
 use duty_calendar::Memory;
 use flat_search::{Board, Care, Pricing, is_large};
@@ -131,8 +132,8 @@ pub(crate) struct Rough {
     pub lost: Vec<usize>,
 }
 
-/// Rough searches of the members one after the other, of all, or as long as too little is found. Lines that they find join the
-/// columns. Where the month is not large, or no close search was long so far, there are none, and nothing is known.
+/// Rough searches of the members one after the other, of all, or as long as too little is found, where no kept line joins the
+/// columns. Lines that they find join these. Where the month is not large, or no close search was long so far, there are none, and nothing is known.
 pub(crate) fn test_roughly(
     alloc: Global,
     problem: &Problem,
@@ -155,6 +156,10 @@ pub(crate) fn test_roughly(
         rough.is_open = true;
         return Ok(rough);
     };
+    if join_kept(problem, kept, goal, columns, tried)? {
+        rough.is_open = true;
+        return Ok(rough);
+    }
     let mut leaf = begun;
     let before = columns.count();
     let care = Care::Rough;
