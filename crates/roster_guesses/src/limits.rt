@@ -4,7 +4,7 @@
 /// How many steps a brief search for a line may take, a close one in a large month, and how often a lens is made to look at more.
 /// Where a close search ends at its limit, an illegal line may be answered, and a node stands open by a mix of such lines. With 1,000,000
 /// steps, as in other months, that was so at the root of the 28th of 30 places for 26 levels, and no tree ended there; with 20,000,000 the
-/// next place took five times as long.
+/// next place took four times as long.
 pub(crate) const BRIEF: u64 = 5_000;
 
 pub(crate) const CLOSE: u64 = 3_000_000;
