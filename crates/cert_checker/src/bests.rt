@@ -11,7 +11,7 @@ ghost use Rattle.cert_checker.specs.Bests.{IsShapeFault, IsWithin};
 
 use crate::refusal::{ItemFault, StepFault};
 use label_lattice::Steps;
-use line_generator::{BestFault, Over, PricedLine, heaviest, heaviest_over};
+use line_generator::{BestFault, Over, PricedLine, heaviest, heaviest_in_turns, heaviest_over};
 use roster_model::{Goal, Lens, Node, Problem};
 use std::alloc::Global;
 use std::marker::Brand;
@@ -20,16 +20,19 @@ use std::sync::ledger::{Blank, Ledger};
 /// Less than any line weighs.
 const LEAST: i64 = -1_288_490_188_201;
 
-/// How many steps a first search may take, and one above a guess.
+/// How many steps a first search may take where there is a guess, one without a guess, and one above a guess.
+const SHORT: u64 = 5_000;
+
 const BRIEF: u64 = 100_000;
 
 const LONG: u64 = 50_000_000;
 
-/// A search for a line that weighs more than this, in so many steps.
+/// A search for a line that weighs more than this, in so many steps; at once or in turns.
 #[derive(Clone, Copy)]
 struct Trial {
     over: i64,
     limit: u64,
+    in_turns: bool,
 }
 
 /// A line of the member that passes the lens, of the greatest weight, if it is found in a trial; the
@@ -57,8 +60,17 @@ fn line_above<L: Ledger>(
     ensures most { IfOk result (λ answer. IfLine answer (λ b.
         IsMostWeight problem.now member goal.now node.now lens.now weights.now b.weight)) }
 {
-    let Trial { over, limit } = trial;
+    let Trial {
+        over,
+        limit,
+        in_turns,
+    } = trial;
     let mut steps: Steps<L> = Steps::new(blank);
+    if in_turns {
+        return heaviest_in_turns(
+            alloc, problem, member, goal, node, lens, weights, over, limit, &mut steps,
+        );
+    }
     heaviest_over(
         alloc, problem, member, goal, node, lens, weights, over, limit, &mut steps,
     )
@@ -151,14 +163,18 @@ pub(crate) fn heaviest_line(
 {
     let first = Trial {
         over: LEAST,
-        limit: BRIEF,
+        limit: if guess.is_some() { SHORT } else { BRIEF },
+        in_turns: false,
     };
     if let Some(priced) = tried(alloc, problem, member, goal, node, lens, weights, first) {
         return Ok(Some(priced));
     }
     if let Some(over) = guess {
-        let limit = LONG;
-        let above = Trial { over, limit };
+        let above = Trial {
+            over,
+            limit: LONG,
+            in_turns: true,
+        };
         if let Some(priced) = tried(alloc, problem, member, goal, node, lens, weights, above) {
             return Ok(Some(priced));
         }

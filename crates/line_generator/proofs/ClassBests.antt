@@ -1,6 +1,6 @@
 -- The lines of a lens, by its classes: what holds of the weights of all classes holds of all lines.
 use Rattle.std.proofs.Common.{◌≡◌, ℕ, ℤ, ◌+◌, ◌^◌, ◌<◌, ◌≤◌, ◌≤ℤ◌, Bool, ◌&&◌, ◌||◌, length, true, false, List, Option, Some, None, refl, ap, sym, ◌∙◌, subst, inl, inr, arith}
-use Rattle.std.specs.Prelude.{All, Err, IfNone, IfOk, Ok, Result, IfSome, int_lt, if◌then◌else◌}
+use Rattle.std.specs.Prelude.{All, IfNone, IfSome, int_lt, if◌then◌else◌}
 use Rattle.std.specs.Int.Signed.{◌<ℤ◌}
 use Rattle.std.proofs.Math.Path.{fun_ext}
 use Rattle.std.proofs.lemmas.Bool.{and_parts, cases_lt, false≢true}
@@ -15,7 +15,7 @@ use Rattle.roster_model.specs.Legality.{high_of}
 use Rattle.roster_model.specs.Lenses.{HasNoLine, IsLens, IsLensLine, IsMostWeight, IsWindow, has_trackable, is_grain, is_tracked, is_whole_tracked, may_track}
 use Rattle.roster_model.specs.Weights.{weight_of}
 use Rattle.lens_classes.specs.Classes.{IsClassLens, IsTerms, is_in}
-use Rattle.lens_classes.specs.TermLines.{AreTermsOf, HasNoTermLine, IsMostTermWeight, IsTermLine}
+use Rattle.lens_classes.specs.TermLines.{AreTermsOf, IsTermLine}
 use Rattle.lens_classes.specs.declared.terms.Terms.{Terms}
 use Rattle.lens_classes.specs.Laws.{IsInClass}
 use Rattle.lens_classes.proofs.ClassLines.{passes_by_classes}

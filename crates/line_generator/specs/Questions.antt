@@ -1,5 +1,6 @@
 -- What a search for a member's line is asked of the lines that pass a lens.
 use Rattle.std.specs.Prelude.{◌≡◌, ℕ, ℤ, ◌<◌, ◌^◌, List, length}
+use Rattle.lens_classes.specs.declared.terms.Terms.{Terms}
 use Rattle.roster_model.specs.declared.goal.Goal.{Goal}
 use Rattle.roster_model.specs.declared.node.Decision.{Decision}
 use Rattle.roster_model.specs.declared.problem.Problem.{Problem}
@@ -35,3 +36,14 @@ pub record IsUnchecked (asked : Question) : Type 0 where
 -- the lines that are asked for
 abbrev pub Passes : Question → List ℕ → Type 0
 Passes asked = IsLensLine asked.problem.now asked.member asked.goal.now asked.node.now asked.lens.now
+
+-- the same terms with a least credit of 0
+abbrev pub without_low : Terms → Terms
+without_low terms = record {
+  low = 0;
+  high = terms.high;
+  days_off = terms.days_off;
+  floor = terms.floor;
+  asked = terms.asked;
+  counted = terms.counted;
+}

@@ -116,6 +116,7 @@ impl Question<'_> {
         requires asked { IsQuestion self.now }
         ensures over { IfOk result (IsLensOver self.now sought.now) }
         ensures limit { result ≡ Ok Over.Limit → steps.old + sought.now.limit ≤ steps.new }
+        ensures onward { IfOk result (λ answer. steps.old ≤ steps.new) }
         ensures steps { steps.new ≤ steps.old + 256 * sought.now.limit }
     {
         let bids = whole_bids(self.problem, self.member, self.lens);

@@ -6,7 +6,7 @@ ghost use Rattle.roster_model.specs.Weights.{AreSmallWeights};
 use duty_calendar::Memory;
 use flat_search::{Pricing, Row, is_member, number};
 use label_lattice::Steps;
-use line_generator::{BestFault, Over, are_small, best_over};
+use line_generator::{BestFault, Over, are_small, best_in_turns};
 use roster_model::{Decision, Lens, Node, NodeFault, Problem};
 use std::alloc::Global;
 use std::marker::Brand;
@@ -82,7 +82,7 @@ fn over_from<L: Ledger>(
         ..
     } = asked;
     let mut steps: Steps<L> = Steps::new(blank);
-    best_over(
+    best_in_turns(
         alloc, problem, member, goal, node, lens, weights, over, limit, &mut steps,
     )
 }

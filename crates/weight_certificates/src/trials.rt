@@ -12,7 +12,7 @@ use crate::lists::append;
 use crate::rows::{product, set_miss};
 use duty_calendar::{List, Memory};
 use label_lattice::Steps;
-use line_generator::{BestFault, Over, are_small, heaviest_over, is_out_of_reach};
+use line_generator::{BestFault, Over, are_small, heaviest_in_turns, is_out_of_reach};
 use line_lens::check_lens;
 use roster_model::{Goal, Lens, Line, Node, Problem, Roster};
 use std::alloc::Global;
@@ -75,7 +75,7 @@ fn over_from<L: Ledger>(
         weights.now bound }
 {
     let mut steps: Steps<L> = Steps::new(blank);
-    heaviest_over(
+    heaviest_in_turns(
         alloc, problem, member, goal, node, lens, weights, bound, MOST_STEPS, &mut steps,
     )
 }

@@ -8,7 +8,7 @@ use Rattle.line_generator.specs.Overs.{IsLensOver}
 use Rattle.line_generator.specs.Questions.{Passes}
 use Rattle.term_lines.specs.Overs.{IsMost}
 use Rattle.term_lines.specs.declared.above.Over.{Over}
-use Rattle.term_lines.specs.declared.above.Over.TheVariants.{Nothing, Limit}
+use Rattle.term_lines.specs.declared.above.Over.TheVariants.{Limit}
 use Rattle.term_lines.specs.declared.priced.PricedLine.{PricedLine}
 use Rattle.line_generator.proofs.ClassBests.{below_all, below_spared, few_whole}
 use Rattle.line_generator.proofs.ClassOvers.{above_first, answer_has, below_answer, end_has, end_most, end_none, end_told, line_if, line_never, steps_at_end, steps_within}
