@@ -118,6 +118,17 @@ impl Board {
         }
     }
 
+    /// How many members are decided to fly the pairing.
+    pub fn crew(&self, pairing: usize) -> u32 {
+        let mut crew: u32 = 0;
+        for row in &self.rows {
+            if row.flown.contains(pairing) {
+                crew = crew.saturating_add(1);
+            }
+        }
+        crew
+    }
+
     /// Whether more members than needed are decided to fly the pairing, or fewer are left for it.
     fn is_miscrewed(&self, pairing: usize, need: u32) -> bool {
         let mut flown: u32 = 0;

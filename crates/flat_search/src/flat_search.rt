@@ -10,7 +10,7 @@ use crate::pairings::PairingSet;
 use crate::prepared::{Courses, Prepared};
 use crate::profiles::{Profile, look_at, number};
 use crate::sheets::Sheet;
-use crate::sizes::{MOST_STATES, MOST_TESTS, MOST_WINDOWS, STAGES};
+use crate::sizes::{MOST_STATES, MOST_TESTS, MOST_WINDOWS, STAGES, Stage};
 use crate::trail::Trail;
 use duty_calendar::{List, Memory};
 use line_legality::Illegal;
@@ -167,6 +167,9 @@ impl Search<'_> {
             if !self.climb.is_done(&label) {
                 continue;
             }
+            if label.credit < self.climb.course.low {
+                return Ok(Found::Limit);
+            }
             if let Some(found) = self.scene.tested(alloc, &trail, &label)? {
                 return Ok(Found::Line(found));
             }
@@ -185,21 +188,42 @@ fn most_bids(places: usize) -> usize {
     63u32.saturating_sub(states.leading_zeros()) as usize
 }
 
-/// The search over a course by a table of bids, with so many steps.
+/// The search over a course by a table of bids, with so many steps, for lines with a least credit.
 fn climbed_by<'a>(
     alloc: Global,
     scene: Scene<'a>,
     course: &'a Course,
     bids: &'a Bids,
+    low: u32,
     steps: u64,
 ) -> Result<Found, Memory> {
     let climb = Climb {
         course,
         sheet: scene.sheet,
         bids,
+        low,
         over: scene.asked.over,
     };
     Search { scene, climb }.climbed(alloc, steps)
+}
+
+/// The search by a table of bids, in turns: from the second stage on first with no least credit, by which many labels let others go.
+/// Where no line is found so, there is none.
+fn climbed_in_turns<'a>(
+    alloc: Global,
+    scene: Scene<'a>,
+    course: &'a Course,
+    bids: &'a Bids,
+    stage: Stage,
+    number: usize,
+) -> Result<Found, Memory> {
+    if number > 0 {
+        match climbed_by(alloc, scene, course, bids, 0, stage.steps)? {
+            Found::Limit => {}
+            found => return Ok(found),
+        }
+    }
+    climbed_by(alloc, scene, course, bids, course.low, stage.steps)
 }
 
 /// Searches a course stage by stage, each with a stronger table of bids, and from the second on with that of free hours.
@@ -211,7 +235,7 @@ fn staged(alloc: Global, scene: Scene, course: &mut Course) -> Result<Found, Mem
         if number > 0 {
             course.look_at_free_hours();
         }
-        match climbed_by(alloc, scene, course, &table, stage.steps)? {
+        match climbed_in_turns(alloc, scene, course, &table, *stage, number)? {
             Found::Limit if number == 0 || bids < all => {}
             found => return Ok(found),
         }

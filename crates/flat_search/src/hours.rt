@@ -8,13 +8,12 @@ use std::alloc::Global;
 /// How many minutes the tables take for one.
 const HOUR: u32 = 60;
 
-/// What may be gained by hours that are left, and by hours that are due; the greatest credit, and the least.
+/// What may be gained by hours that are left, and by hours that are due; and the greatest credit.
 #[derive(Drop)]
 pub(crate) struct Hours {
     left: Table,
     due: Table,
     high: u32,
-    low: u32,
 }
 
 /// So many minutes in hours, where a part counts as one.
@@ -46,7 +45,6 @@ impl Hours {
             left: Table::new(alloc, &all, places)?,
             due: Table::new(alloc, &met, places)?,
             high: owner.high,
-            low: owner.low,
         })
     }
 
@@ -64,10 +62,10 @@ impl Hours {
         }
     }
 
-    /// What may be gained at most so many places before the end, where a line has this credit.
-    pub(crate) fn most(&self, back: usize, credit: u32) -> i64 {
+    /// What may be gained at most so many places before the end, where a line has this credit and is to come to a least one.
+    pub(crate) fn most(&self, back: usize, credit: u32, low: u32) -> i64 {
         let left = hours_down(self.high.saturating_sub(credit));
-        let due = hours_up(self.low.saturating_sub(credit));
+        let due = hours_up(low.saturating_sub(credit));
         self.left.at(back, left).min(self.due.at(back, due))
     }
 }

@@ -28,12 +28,13 @@ pub(crate) struct Label {
     pub usage: [u32; WINDOWS],
 }
 
-/// By what labels are extended.
+/// By what labels are extended: of what course, with which least credit, and above which bound.
 #[derive(Clone, Copy)]
 pub(crate) struct Climb<'a> {
     pub course: &'a Course,
     pub sheet: &'a Sheet,
     pub bids: &'a Bids,
+    pub low: u32,
     pub over: i64,
 }
 
@@ -106,7 +107,7 @@ impl Climb<'_> {
         };
         label.lose(course, self.bids.told, place);
         let most = label.credit.saturating_add(place.ahead.credit);
-        if label.lost > course.allowed || most < course.low {
+        if label.lost > course.allowed || most < self.low {
             return false;
         }
         label.forget(course, place);
@@ -125,7 +126,7 @@ impl Climb<'_> {
         let back = course.len().saturating_sub(label.place);
         let bids = label.bids & self.bids.told;
         let by_bids = self.bids.table.at(back, bids as usize);
-        let mut most = course.hours.most(back, label.credit).min(by_bids);
+        let mut most = course.hours.most(back, label.credit, self.low).min(by_bids);
         if course.has_blocks && label.gain.wrapping_add(most) > self.over {
             let by_blocks = course.blocks.most(label.place, label.block, label.after);
             most = most.min(by_blocks);
@@ -199,7 +200,7 @@ impl Climb<'_> {
             return true;
         }
         if one.credit < other.credit {
-            return one.credit >= course.low;
+            return one.credit >= self.low;
         }
         let more = match course.places.get(one.place) {
             Some(place) => place.ahead.credit,
@@ -237,7 +238,7 @@ impl Climb<'_> {
     pub(crate) fn is_done(&self, label: &Label) -> bool {
         let course = self.course;
         let unmet = weigh_bids(&course.weights, label.bids & !course.spoiled);
-        label.credit >= course.low
+        label.credit >= self.low
             && label.credit <= course.high
             && label.lost.saturating_add(unmet) <= course.allowed
     }

@@ -73,6 +73,15 @@ impl PairingSet {
         set
     }
 
+    /// The pairings that the other set has not.
+    pub fn without(&self, other: &PairingSet) -> PairingSet {
+        let mut set = *self;
+        for (word, its) in set.words.iter_mut().zip(other.words.iter()) {
+            *word &= !*its;
+        }
+        set
+    }
+
     /// How many pairings one of the sets has and the other has not.
     pub fn distance(&self, other: &PairingSet) -> i64 {
         let mut count: i64 = 0;

@@ -5,11 +5,13 @@
 mod barren;
 mod borrowing;
 mod columns;
+mod dual;
 mod evening;
 mod kept;
 mod leaf;
 mod limits;
 mod listed;
+mod master;
 mod mix;
 mod notes;
 mod program;
@@ -20,9 +22,11 @@ mod steps;
 
 pub use borrowing::Borrowed;
 pub use columns::Columns;
+pub use dual::Balance;
 pub use evening::{Ended, improve};
 pub use kept::Kept;
 pub use leaf::{Bounded, Leaf};
+pub use master::Master;
 pub use mix::Mix;
 pub use program::Program;
 pub use shares::{Share, WHOLE, needed};

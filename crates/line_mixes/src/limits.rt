@@ -34,3 +34,17 @@ pub(crate) const JITTER: f64 = 0.000_000_02;
 pub(crate) const COST_OF_GONE: f64 = 3.0;
 /// After so many changes a program is begun anew, since errors add up.
 pub(crate) const OLD: u32 = 20_000;
+
+/// In the master: an amount below this counts as none.
+pub(crate) const CHOSEN: f64 = 0.000_000_1;
+/// What a line takes of a row that is no more than this is nothing; and how much it may take where that is to show that nothing does.
+pub(crate) const FIRM: f64 = 0.000_01;
+
+pub(crate) const CERTAIN: f64 = 0.000_1;
+/// Costs so near to one another count as the same, so that the line comes in that takes most of a row: without that one tree of three
+/// ended by numbers that were off.
+pub(crate) const CLOSE_TO: f64 = 0.000_1;
+/// By how much a line becomes dearer, at most, than what it is worth where it comes back.
+pub(crate) const DEARER: f64 = 0.1;
+/// An amount above this is off.
+pub(crate) const WILD: f64 = 1_000_000.0;

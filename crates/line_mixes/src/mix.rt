@@ -3,6 +3,7 @@
 
 use crate::columns::Columns;
 use crate::kept::Kept;
+use crate::master::Master;
 use crate::program::Program;
 use crate::shares::{Share, WHOLE, greatest, push_whole, scale, shift};
 use duty_calendar::Memory;
@@ -85,6 +86,22 @@ impl Mix {
             if shares.is_empty() {
                 push_whole(&mut shares, columns.places(member).first())?;
             }
+            mix.add(kept, member, shares)?;
+        }
+        Ok(mix)
+    }
+
+    /// The shares of a master.
+    pub fn of_master(
+        alloc: Global,
+        problem: &Problem,
+        kept: &Kept,
+        master: &Master,
+    ) -> Result<Mix, Memory> {
+        let mut mix = Mix::empty(alloc, problem)?;
+        for member in 0..problem.base.members.len() {
+            let mut shares = master.shares(alloc, member)?;
+            scale(&mut shares);
             mix.add(kept, member, shares)?;
         }
         Ok(mix)

@@ -9,7 +9,7 @@ use closer_guide::Guess;
 use duty_calendar::Memory;
 use flat_search::Board;
 use line_mixes::Mix;
-use roster_guesses::{PLUNGED, Solved};
+use roster_guesses::{PLUNGED, Solved, UNSETTLED};
 use roster_model::{Goal, Problem, Roster};
 use std::alloc::Global;
 
@@ -56,7 +56,7 @@ impl MixGuide {
         Ok(Reached::Node(planning))
     }
 
-    /// Walks the tree of the goal, whose empty node the mix leaves open.
+    /// Walks the tree of the goal, whose empty node the mix leaves open, where kept lines alone are no roster.
     fn plunge(
         &mut self,
         alloc: Global,
@@ -67,6 +67,9 @@ impl MixGuide {
     ) -> Result<Plunged, Memory>
         requires goal { IsGoal problem.now goal.now }
     {
+        if let Some(roster) = self.settled_well(alloc, problem, goal)? {
+            return Ok(Plunged::Roster(roster));
+        }
         let mut tree = Tree::new(alloc, PLUNGED);
         self.mixes.truncate(0);
         let first = self.split(alloc, problem, goal, board, mix)?;

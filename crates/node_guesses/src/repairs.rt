@@ -5,12 +5,13 @@ use crate::floors::goal_of;
 use crate::guide::MixGuide;
 use crate::ranges::{LevelRange, floor_of, level_of};
 use duty_calendar::Memory;
-use roster_guesses::{AGAIN, Effort, Kind, LEVELS, Solved};
+use roster_guesses::{AGAIN, Effort, Kind, LEVELS, Solved, UNSETTLED_AT};
 use roster_model::Problem;
 use std::alloc::Global;
 
 impl MixGuide {
-    /// Looks with much effort for a roster that meets a floor, and tells whether one was found.
+    /// Looks with much effort for a roster that meets a floor, at last by a tree over kept lines of which so many nodes may come to
+    /// nothing, and tells whether one was found.
     fn repair_at(
         &mut self,
         alloc: Global,
@@ -18,6 +19,7 @@ impl MixGuide {
         before: &[u32],
         floor: u32,
         may_dive: bool,
+        failures: usize,
     ) -> Result<bool, Memory>
         requires place { length before.now < length problem.now.base.members }
     {
@@ -26,14 +28,36 @@ impl MixGuide {
         match self.rooted(alloc, problem, &goal, effort)? {
             Solved::Roster(roster, _mix) => {
                 self.finder.known.add(alloc, problem, &roster)?;
-                Ok(true)
+                return Ok(true);
             }
-            Solved::Closed(_) | Solved::Open(_) => Ok(false),
+            Solved::Closed(_) => return Ok(false),
+            Solved::Open(_) => {}
         }
+        self.settle_at(alloc, problem, before, floor, failures)
+    }
+
+    /// Looks among kept lines for a roster that meets a floor, and tells whether one was found.
+    fn settle_at(
+        &mut self,
+        alloc: Global,
+        problem: &Problem,
+        before: &[u32],
+        floor: u32,
+        failures: usize,
+    ) -> Result<bool, Memory>
+        requires place { length before.now < length problem.now.base.members }
+    {
+        let goal = goal_of(alloc, problem, before, floor)?;
+        let Some(roster) = self.settled(alloc, problem, &goal, failures)? else {
+            return Ok(false);
+        };
+        self.finder.known.add(alloc, problem, &roster)?;
+        Ok(true)
     }
 
     /// Long repairs by halves: where one finds no roster at a level, the next one is made halfway down to the best that is known,
-    /// else halfway up from it. The first may be at the greatest level below the high one.
+    /// else halfway up from it. The first may be at the greatest level below the high one. At each so many nodes of a tree over
+    /// kept lines may come to nothing.
     fn repair_by_halves(
         &mut self,
         alloc: Global,
@@ -42,6 +66,7 @@ impl MixGuide {
         levels: &[u32],
         high: usize,
         is_first: bool,
+        failures: usize,
     ) -> Result<(), Memory>
         requires place { length before.now < length problem.now.base.members }
     {
@@ -58,7 +83,7 @@ impl MixGuide {
                 low.saturating_add(high) / 2
             };
             let floor = floor_of(levels, level);
-            if !self.repair_at(alloc, problem, before, floor, is_first)? {
+            if !self.repair_at(alloc, problem, before, floor, is_first, failures)? {
                 high = level;
             }
             is_first = false;
@@ -78,7 +103,7 @@ impl MixGuide {
         requires place { length before.now < length problem.now.base.members }
     {
         if self.finder.kind(problem) == Kind::Large {
-            return self.repair_by_halves(alloc, problem, before, levels, range.high, true);
+            return self.repair_by_halves(alloc, problem, before, levels, range.high, true, 0);
         }
         let mut low = range.low;
         for turn in 0..2 {
@@ -86,7 +111,7 @@ impl MixGuide {
                 return Ok(());
             }
             let floor = floor_of(levels, range.high.saturating_sub(1));
-            self.repair_at(alloc, problem, before, floor, turn == 0)?;
+            self.repair_at(alloc, problem, before, floor, turn == 0, 0)?;
             let best = self.better(before, 0).unwrap_or(0);
             low = level_of(levels, best);
         }
@@ -106,7 +131,8 @@ impl MixGuide {
     {
         let high = levels.len();
         if self.finder.kind(problem) == Kind::Large {
-            return self.repair_by_halves(alloc, problem, before, levels, high, false);
+            let failures = UNSETTLED_AT;
+            return self.repair_by_halves(alloc, problem, before, levels, high, false, failures);
         }
         for _ in 0..AGAIN {
             let low = level_of(levels, self.better(before, 0).unwrap_or(0));
@@ -115,7 +141,7 @@ impl MixGuide {
                 return Ok(());
             }
             let top = floor_of(levels, high.saturating_sub(1));
-            if self.repair_at(alloc, problem, before, top, false)? {
+            if self.repair_at(alloc, problem, before, top, false, 0)? {
                 continue;
             }
             let is_found = half >= low.saturating_add(2)
@@ -125,6 +151,7 @@ impl MixGuide {
                     before,
                     floor_of(levels, half.saturating_sub(1)),
                     false,
+                    0,
                 )?;
             if !is_found {
                 return Ok(());

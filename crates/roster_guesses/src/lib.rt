@@ -23,8 +23,8 @@ pub use effort::{Effort, Kind};
 pub use finder::{Finder, Solved, Task};
 pub use lenses::{plainer, plainer_without_line};
 pub use limits::{
-    AGAIN, CHANGES, LEVELS, MIXED, MOST_ROWS, NO_PART, PLACES, PLANNED, PLUNGED, PROBE_CHANGES,
-    PROBE_END, PROBE_MOST, PROBES, SPLITS,
+    AGAIN, BALANCED, CHANGES, LEVELS, MIXED, MOST_ROWS, NO_PART, PLACES, PLANNED, PLUNGED,
+    PROBE_CHANGES, PROBE_END, PROBE_MOST, PROBES, SETTLED, SHAKEN, SPLITS, UNSETTLED, UNSETTLED_AT,
 };
 pub use mastering::{is_worth_while, program_of};
 pub use pricing::{Priced, price};
