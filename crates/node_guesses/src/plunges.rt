@@ -56,7 +56,7 @@ impl MixGuide {
         Ok(Reached::Node(planning))
     }
 
-    /// Walks the tree of the goal, whose empty node the mix leaves open, where kept lines alone are no roster.
+    /// Walks the tree of the goal, whose empty node the mix leaves open. Where that takes many nodes, kept lines alone may be a roster.
     fn plunge(
         &mut self,
         alloc: Global,
@@ -67,17 +67,20 @@ impl MixGuide {
     ) -> Result<Plunged, Memory>
         requires goal { IsGoal problem.now goal.now }
     {
-        if let Some(roster) = self.settled_well(alloc, problem, goal)? {
-            return Ok(Plunged::Roster(roster));
-        }
         let mut tree = Tree::new(alloc, PLUNGED);
         self.mixes.truncate(0);
         let first = self.split(alloc, problem, goal, board, mix)?;
         let mut going = tree.add(first)?;
-        for _ in 0..PLUNGED {
+        let late = self.settled_from();
+        for turn in 0..PLUNGED {
             let Going::On = going else {
                 return Ok(Plunged::Tree(tree.planned()));
             };
+            if turn == late {
+                if let Some(roster) = self.settled_well(alloc, problem, goal)? {
+                    return Ok(Plunged::Roster(roster));
+                }
+            }
             let board = Board::of(alloc, problem, &tree.node)?;
             let depth = tree.node.len();
             match self.reached(alloc, problem, goal, &board, depth)? {

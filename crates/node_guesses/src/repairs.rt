@@ -33,6 +33,9 @@ impl MixGuide {
             Solved::Closed(_) => return Ok(false),
             Solved::Open(_) => {}
         }
+        if self.master.is_none() {
+            return Ok(false);
+        }
         self.settle_at(alloc, problem, before, floor, failures)
     }
 
@@ -56,8 +59,8 @@ impl MixGuide {
     }
 
     /// Long repairs by halves: where one finds no roster at a level, the next one is made halfway down to the best that is known,
-    /// else halfway up from it. The first may be at the greatest level below the high one. At each so many nodes of a tree over
-    /// kept lines may come to nothing.
+    /// else halfway up from it. The first may be at the greatest level below the high one. Once a tree
+    /// was large, so many nodes of one over kept lines may come to nothing at each.
     fn repair_by_halves(
         &mut self,
         alloc: Global,

@@ -102,6 +102,14 @@ impl MixGuide {
         Ok(found)
     }
 
+    /// From which node of a tree on kept lines are tried: the first, once a tree of the award had so many nodes that they were.
+    pub(crate) fn settled_from(&self) -> usize {
+        match self.master {
+            Some(_) => 0,
+            None => SETTLED.saturating_mul(2),
+        }
+    }
+
     /// The same with much effort: where that fails, once more with other costs.
     pub(crate) fn settled_well(
         &mut self,
