@@ -59,7 +59,7 @@ pub const SPLITS: usize = 12;
 /// 40 members, and 0.18 s with it.
 pub const PLUNGED: usize = 400;
 /// How many nodes a tree of masters over kept lines may have, and how often a line may come in at one below the empty node; and how many
-/// of its nodes may come to nothing: before a tree is walked, and where a level is to be reached. At the 23rd of 30 places one of 6 to 81 nodes had a roster,
+/// of its nodes may come to nothing: where a tree is large, and where a level is to be reached. At the 23rd of 30 places one of 6 to 81 nodes had a roster,
 /// by the costs that lines have by chance.
 pub const SETTLED: usize = 120;
 
@@ -68,7 +68,7 @@ pub const BALANCED: u32 = 1_000;
 pub const UNSETTLED: usize = 12;
 
 pub const UNSETTLED_AT: usize = 4;
-/// With how many costs a tree of masters is tried, before a tree is walked.
+/// With how many costs a tree of masters is tried where a tree is large.
 pub const SHAKEN: u32 = 2;
 /// Where a node is split, a share of 65,536 that is no more than this counts as none, and one that lacks no more counts as whole.
 pub const NO_PART: i64 = 655;
