@@ -1,5 +1,5 @@
 //! Rosters of kept lines by trees of masters (the restricted master solved in whole numbers, depth first): no line is searched for, so a
-//! node takes some milliseconds.
+//! node takes some hundredths of a second.
 
 use crate::guide::MixGuide;
 use crate::pairs::branch_pair;

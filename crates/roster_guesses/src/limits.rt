@@ -59,8 +59,8 @@ pub const SPLITS: usize = 12;
 /// 40 members, and 0.18 s with it.
 pub const PLUNGED: usize = 400;
 /// How many nodes a tree of masters over kept lines may have, and how often a line may come in at one below the empty node; and how many
-/// of its nodes may come to nothing: where a tree is large, and where a level is to be reached. At the 23rd of 30 places one of 6 to 81 nodes had a roster,
-/// by the costs that lines have by chance.
+/// of its nodes may come to nothing: where a tree is large, and where a level is to be reached. At the 23rd of 30 places one of 6 to 81
+/// nodes had a roster, by the costs that lines have by chance.
 pub const SETTLED: usize = 120;
 
 pub const BALANCED: u32 = 1_000;
