@@ -7,11 +7,11 @@ use crate::recent::{KeptLine, Recent};
 use column_pool::Pool;
 use duty_calendar::{Copied, List, Memory};
 use flat_search::{
-    Courses, Found, PairingSet, Pricing, Profile, are_known, broken, first_lens, first_lenses,
+    Courses, Found, PairingSet, Pricing, Profile, Row, are_known, broken, first_lens, first_lenses,
     flat_over, is_member, known_of, look_at, number,
 };
 use line_legality::Illegal;
-use roster_model::{Lens, Line, Problem};
+use roster_model::{Goal, Lens, Line, Problem};
 use std::alloc::Global;
 
 /// The kept lines, which are found by member and number; for each member a lens that sees the rules which its lines
@@ -149,6 +149,18 @@ impl Kept {
     /// What is known of a line.
     pub fn profile(&self, member: usize, place: usize) -> Option<&Profile> {
         self.profiles.get(member)?.get(place)
+    }
+
+    /// Whether the line is legal, meets the goal and obeys the row.
+    pub fn may_fly(&self, member: usize, place: usize, goal: &Goal, row: &Row) -> bool {
+        match self.profile(member, place) {
+            Some(profile) => {
+                profile.serves(goal, member)
+                    && row.flown.is_within(&profile.pairings)
+                    && !row.barred.meets(&profile.pairings)
+            }
+            None => false,
+        }
     }
 
     /// The rule that a line breaks, if any.

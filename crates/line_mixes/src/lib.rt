@@ -15,8 +15,10 @@ mod master;
 mod mix;
 mod notes;
 mod program;
+mod rebuilding;
 mod recent;
 mod shares;
+mod shortage;
 mod simplex;
 mod steps;
 
@@ -30,3 +32,4 @@ pub use master::Master;
 pub use mix::Mix;
 pub use program::Program;
 pub use shares::{Share, WHOLE, needed};
+pub use shortage::Shortage;

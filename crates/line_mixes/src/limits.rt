@@ -35,16 +35,24 @@ pub(crate) const COST_OF_GONE: f64 = 3.0;
 /// After so many changes a program is begun anew, since errors add up.
 pub(crate) const OLD: u32 = 20_000;
 
-/// In the master: an amount below this counts as none.
+/// In the master: an amount below this counts as none; and by how much a row may be off, of one line.
 pub(crate) const CHOSEN: f64 = 0.000_000_1;
-/// What a line takes of a row that is no more than this is nothing; and how much it may take where that is to show that nothing does.
-pub(crate) const FIRM: f64 = 0.000_01;
 
-pub(crate) const CERTAIN: f64 = 0.000_1;
+pub(crate) const AWAY: f64 = 0.001;
+/// What a line takes of a row that is no more than this is nothing: with 0.00001 rows were off after some hundred changes. And how
+/// little of it there is of a row that it doesn't make.
+pub(crate) const FIRM: f64 = 0.001;
+
+pub(crate) const SINGULAR: f64 = 0.000_001;
+/// After how many changes rows are worked out anew, in 10 ms at 30 members.
+pub(crate) const STALE: u32 = 300;
 /// Costs so near to one another count as the same, so that the line comes in that takes most of a row: without that one tree of three
 /// ended by numbers that were off.
 pub(crate) const CLOSE_TO: f64 = 0.000_1;
-/// By how much a line becomes dearer, at most, than what it is worth where it comes back.
+/// By how much a line becomes dearer, at most, than what it is worth where it comes back; and above which cost all cost what they did
+/// at first: costs that are not put back come to 10^13 after some twenty closed nodes, and nothing is found any more.
 pub(crate) const DEARER: f64 = 0.1;
+
+pub(crate) const DEAREST: f64 = 100.0;
 /// An amount above this is off.
 pub(crate) const WILD: f64 = 1_000_000.0;

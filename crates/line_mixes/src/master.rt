@@ -1,18 +1,18 @@
-//! The restricted master over all kept lines, for trees in which no line is searched for: shares of lines that meet the needs, where
-//! some lines may not be taken. What was worked out for one node or goal serves the next: lines are barred and let in again, and join.
+//! The restricted master over all kept lines, for trees in which lines are seldom searched for: shares of lines that meet the needs,
+//! where some lines may not be taken. What was worked out for one node or goal serves the next: lines are barred and let in again, and join.
 
 use crate::kept::Kept;
-use crate::limits::{CHOSEN, DEARER, OLD};
-use crate::program::subtract;
+use crate::limits::{CHOSEN, DEAREST};
 use crate::shares::{Share, WHOLE};
+use crate::simplex::{add_up, at};
 use duty_calendar::Memory;
-use flat_search::{Board, PairingSet, number};
+use flat_search::{Board, number};
 use roster_model::{Goal, Problem};
 use std::alloc::Global;
 use std::num::{nearest_i64_to_f64, saturating_f64_to_i64};
 
-/// A kept line that may have a share: its member and number, where its pairings stand, what it costs (by chance), by how much that
-/// is more than it is worth (its reduced cost), whether it may have no share, and whether it has a row.
+/// A kept line that may have a share: its member and number, where its pairings stand, what it costs (by chance), and whether it is
+/// barred, and has a row.
 #[derive(Clone, Copy)]
 pub(crate) struct Choice {
     pub member: usize,
@@ -20,13 +20,25 @@ pub(crate) struct Choice {
     pub from: usize,
     pub to: usize,
     pub cost: f64,
-    pub rest: f64,
     pub is_barred: bool,
     pub is_basic: bool,
 }
 
-/// A row for each pairing, and behind these one for each member: what is needed there, which line has the row, if one has, and how
-/// much of it; and the rows of the inverse.
+/// A line that is not barred: its number, the column of its member, where its pairings stand, by how much it costs more than it is
+/// worth (its reduced cost), and what one of it takes from the row that was looked at last. All go through these, one behind the other.
+#[derive(Clone, Copy)]
+pub(crate) struct Open {
+    pub number: usize,
+    pub own: usize,
+    pub from: usize,
+    pub to: usize,
+    pub rest: f64,
+    pub part: f64,
+}
+
+/// A row for each pairing, and behind these one for each member: what is needed there, which line has the row, if one has, how much
+/// of it, the row of the inverse, and the sum of its squares. The lines, and those of them that are not barred; and how often a line came
+/// in since the rows were worked out.
 #[derive(Drop)]
 pub struct Master {
     pub(crate) pairings: usize,
@@ -34,27 +46,17 @@ pub struct Master {
     pub(crate) basis: Vec<Option<usize>>,
     pub(crate) amounts: Vec<f64>,
     pub(crate) inverse: Vec<Vec<f64>>,
+    pub(crate) squares: Vec<f64>,
     pub(crate) choices: Vec<Choice>,
     pub(crate) flown: Vec<u32>,
-    pub(crate) parts: Vec<f64>,
+    pub(crate) open: Vec<Open>,
     pub(crate) changes: u32,
     joined: Vec<usize>,
-    turn: u32,
 }
 
-/// A row of a matrix that has 1 in the diagonal.
-fn unit_row(alloc: Global, rows: usize, row: usize) -> Result<Vec<f64>, Memory> {
-    let mut unit = vec![in alloc; 0.0; rows]?;
-    if let Some(cell) = unit.get_mut(row) {
-        *cell = 1.0;
-    }
-    Ok(unit)
-}
-
-/// What a line costs, from 0 to 1, as if by chance.
-fn chance(member: usize, place: usize, turn: u32) -> f64 {
+/// What a line costs at first, from 0 to 1, as if by chance.
+pub(crate) fn chance(member: usize, place: usize) -> f64 {
     let mixed = number(place)
-        .wrapping_add(turn.wrapping_mul(7_919))
         .wrapping_add(1)
         .wrapping_mul(2_654_435_769)
         .wrapping_add(number(member).wrapping_mul(1_640_531_527));
@@ -64,22 +66,7 @@ fn chance(member: usize, place: usize, turn: u32) -> f64 {
 
 /// What the row holds at these pairings and at the member's column together.
 pub(crate) fn sum_at(row: &[f64], pairings: &[u32], own: usize) -> f64 {
-    let mut sum = row.get(own).copied().unwrap_or(0.0);
-    for pairing in pairings {
-        sum += row.get(*pairing as usize).copied().unwrap_or(0.0);
-    }
-    sum
-}
-
-/// The pairings for which as many members are decided as are needed.
-fn full_pairings(problem: &Problem, board: &Board) -> PairingSet {
-    let mut full = PairingSet::new();
-    for (pairing, wanted) in problem.base.pairings.as_slice().iter().enumerate() {
-        if board.crew(pairing) >= wanted.need {
-            full.insert(pairing);
-        }
-    }
-    full
+    add_up(row, pairings, at(row, own))
 }
 
 impl Master {
@@ -91,11 +78,11 @@ impl Master {
             basis: Vec::new(alloc),
             amounts: Vec::new(alloc),
             inverse: Vec::new(alloc),
+            squares: Vec::new(alloc),
             choices: Vec::new(alloc),
             flown: Vec::new(alloc),
-            parts: Vec::new(alloc),
+            open: Vec::new(alloc),
             changes: 0,
-            turn: 0,
             joined: vec![in alloc; 0usize; problem.base.members.len()]?,
         };
         for pairing in problem.base.pairings.as_slice() {
@@ -110,31 +97,14 @@ impl Master {
         Ok(master)
     }
 
-    /// Begins anew: no line has a row.
+    /// Begins anew: no line has a row, and each costs what it did at first.
     pub(crate) fn begin(&mut self, alloc: Global) -> Result<(), Memory> {
-        let rows = self.needs.len();
-        self.basis = vec![in alloc; None; rows]?;
-        self.amounts = Vec::from_slice(alloc, &self.needs)?;
-        self.inverse = Vec::new(alloc);
-        self.changes = 0;
-        for row in 0..rows {
-            let unit = unit_row(alloc, rows, row)?;
-            self.inverse.push(unit)?;
-        }
+        self.clear(alloc)?;
         for choice in self.choices.iter_mut() {
-            choice.rest = choice.cost;
+            choice.cost = chance(choice.member, choice.place);
             choice.is_basic = false;
         }
-        Ok(())
-    }
-
-    /// Begins anew with other costs.
-    pub fn shake(&mut self, alloc: Global) -> Result<(), Memory> {
-        self.turn = self.turn.wrapping_add(1);
-        for choice in self.choices.iter_mut() {
-            choice.cost = chance(choice.member, choice.place, self.turn);
-        }
-        self.begin(alloc)
+        self.refresh(alloc)
     }
 
     /// The pairings of a line.
@@ -142,51 +112,29 @@ impl Master {
         self.flown.get(choice.from..choice.to).unwrap_or(&[])
     }
 
-    /// What each row is worth by what the lines cost that have rows.
-    fn worth(&self, alloc: Global) -> Result<Vec<f64>, Memory> {
-        let mut worth = vec![in alloc; 0.0; self.needs.len()]?;
-        for (basic, row) in self.basis.iter().zip(self.inverse.iter()) {
-            if let Some(choice) = basic.and_then(|number| self.choices.get(number)) {
-                subtract(&mut worth, row, -choice.cost);
-            }
-        }
-        Ok(worth)
-    }
-
-    /// Lets a kept line join.
-    fn add(
-        &mut self,
-        kept: &Kept,
-        member: usize,
-        place: usize,
-        worth: &[f64],
-    ) -> Result<(), Memory> {
+    /// Lets a kept line join, which is barred.
+    fn add(&mut self, kept: &Kept, member: usize, place: usize) -> Result<(), Memory> {
         let from = self.flown.len();
         for pairing in kept.pairings(member, place) {
             self.flown.push(*pairing)?;
         }
-        let cost = chance(member, place, self.turn);
-        let own = self.pairings.saturating_add(member);
-        let rest = cost - sum_at(worth, kept.pairings(member, place), own);
         self.choices.push(Choice {
             member,
             place,
             from,
             to: self.flown.len(),
-            cost,
-            rest,
+            cost: chance(member, place),
             is_barred: true,
             is_basic: false,
         })?;
-        self.parts.push(0.0)?;
         Ok(())
     }
 
     /// Lets the member's kept lines join that are new.
-    fn join_lines(&mut self, kept: &Kept, member: usize, worth: &[f64]) -> Result<(), Memory> {
+    fn join_lines(&mut self, kept: &Kept, member: usize) -> Result<(), Memory> {
         let known = self.joined.get(member).copied().unwrap_or(0);
         for place in known..kept.len(member) {
-            self.add(kept, member, place, worth)?;
+            self.add(kept, member, place)?;
         }
         if let Some(joined) = self.joined.get_mut(member) {
             *joined = kept.len(member);
@@ -194,41 +142,43 @@ impl Master {
         Ok(())
     }
 
-    /// Lets all kept lines join that are new.
-    pub fn join(&mut self, alloc: Global, kept: &Kept) -> Result<(), Memory> {
-        if self.changes >= OLD {
-            self.begin(alloc)?;
-        }
-        let worth = self.worth(alloc)?;
+    /// Lets all kept lines join that are new. They are barred until lines are barred anew.
+    pub fn join(&mut self, kept: &Kept) -> Result<(), Memory> {
         for member in 0..self.joined.len() {
-            self.join_lines(kept, member, &worth)?;
+            self.join_lines(kept, member)?;
         }
         Ok(())
     }
 
-    /// Bars the lines that don't serve the goal, or don't obey the board: those too that would fly in a crew that is decided. A line
-    /// that comes back and is worth more than it costs costs a little more than that from now on.
-    pub fn bar(&mut self, problem: &Problem, kept: &Kept, goal: &Goal, board: &Board) {
-        let full = full_pairings(problem, board);
-        let turn = self.turn;
-        for choice in self.choices.iter_mut() {
+    /// Bars the lines that don't serve the goal, or don't obey the board, and lets in the others.
+    pub fn bar(
+        &mut self,
+        alloc: Global,
+        kept: &Kept,
+        goal: &Goal,
+        board: &Board,
+    ) -> Result<(), Memory> {
+        let is_dear = self.choices.iter().any(|choice| choice.cost > DEAREST);
+        self.open.truncate(0);
+        for (number, choice) in self.choices.iter_mut().enumerate() {
             let row = board.row(choice.member);
-            let may_serve = match kept.profile(choice.member, choice.place) {
-                Some(profile) => {
-                    profile.serves(goal, choice.member)
-                        && row.flown.is_within(&profile.pairings)
-                        && !row.barred.meets(&profile.pairings)
-                        && !full.without(&row.flown).meets(&profile.pairings)
-                }
-                None => false,
-            };
-            choice.is_barred = !may_serve;
-            if may_serve && choice.rest < 0.0 {
-                let more = chance(choice.member, choice.place, turn) * DEARER - choice.rest;
-                choice.cost += more;
-                choice.rest += more;
+            choice.is_barred = !kept.may_fly(choice.member, choice.place, goal, &row);
+            if is_dear {
+                choice.cost = chance(choice.member, choice.place);
             }
+            if choice.is_barred {
+                continue;
+            }
+            self.open.push(Open {
+                number,
+                own: self.pairings.saturating_add(choice.member),
+                from: choice.from,
+                to: choice.to,
+                rest: 0.0,
+                part: 0.0,
+            })?;
         }
+        self.refresh(alloc)
     }
 
     /// The shares of a member's lines.

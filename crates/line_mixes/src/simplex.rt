@@ -16,7 +16,7 @@ struct Coming {
 }
 
 /// The number of a row, or 0 where there is none.
-fn at(row: &[f64], column: usize) -> f64 {
+pub(crate) fn at(row: &[f64], column: usize) -> f64 {
     match row.get(column) {
         Some(cell) => *cell,
         None => 0.0,
@@ -24,7 +24,7 @@ fn at(row: &[f64], column: usize) -> f64 {
 }
 
 /// What the pairings of a line are worth together, and this.
-fn add_up(row: &[f64], pairings: &[u32], begun: f64) -> f64 {
+pub(crate) fn add_up(row: &[f64], pairings: &[u32], begun: f64) -> f64 {
     let mut sum = begun;
     for pairing in pairings {
         if let Some(cell) = row.get(*pairing as usize) {
@@ -56,7 +56,7 @@ fn best_of(
 }
 
 /// By how much less each row has for one of a line of these pairings, whose member has this column.
-fn line_change(
+pub(crate) fn line_change(
     alloc: Global,
     rows: &[Vec<f64>],
     pairings: &[u32],
@@ -95,6 +95,22 @@ fn first_out(amounts: &[f64], change: &[f64]) -> f64 {
         }
     }
     least
+}
+
+/// Takes from all rows of the inverse as many times this one as they change, and from the amounts as many times this amount.
+pub(crate) fn sweep(
+    inverse: &mut [Vec<f64>],
+    amounts: &mut [f64],
+    change: &[f64],
+    row: &[f64],
+    amount: f64,
+) {
+    for ((own, have), by) in inverse.iter_mut().zip(amounts.iter_mut()).zip(change) {
+        if by.abs() >= NO_CHANGE {
+            *have -= *by * amount;
+            subtract(own, row, *by);
+        }
+    }
 }
 
 impl Program {
@@ -192,18 +208,6 @@ impl Program {
         best
     }
 
-    /// Takes from all rows of the inverse as many times this one as they change, and from the amounts as many times this
-    /// amount.
-    fn sweep(&mut self, change: &[f64], row: &[f64], amount: f64) {
-        let rows = self.inverse.iter_mut().zip(self.amounts.iter_mut());
-        for ((own, have), by) in rows.zip(change) {
-            if by.abs() >= NO_CHANGE {
-                *have -= *by * amount;
-                subtract(own, row, *by);
-            }
-        }
-    }
-
     /// Lets something in, in place of what has a row.
     fn let_in(&mut self, alloc: Global, coming: Coming, change: &[f64], out: usize) {
         let by = at(change, out);
@@ -215,7 +219,7 @@ impl Program {
             *cell = *cell / by;
         }
         let amount = at(&self.amounts, out).max(0.0) / by;
-        self.sweep(change, &row, amount);
+        sweep(&mut self.inverse, &mut self.amounts, change, &row, amount);
         subtract(&mut self.worth, &row, coming.gain);
         if let Some(own) = self.inverse.get_mut(out) {
             *own = row;

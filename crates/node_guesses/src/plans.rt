@@ -17,13 +17,13 @@ use std::alloc::Global;
 /// A guess at the node of so many decisions.
 #[derive(Drop)]
 pub(crate) struct Planned {
-    depth: usize,
-    guess: Guess,
+    pub depth: usize,
+    pub guess: Guess,
 }
 
 /// What a plan says of a node.
 #[derive(Drop)]
-pub(crate) enum Planning {
+enum Planning {
     /// The decisions alone close it.
     Decided,
     /// This closes it.
@@ -36,7 +36,7 @@ pub(crate) enum Planning {
 
 /// Whether there is a node to go on with.
 #[derive(Clone, Copy)]
-pub(crate) enum Going {
+enum Going {
     On,
     Done,
     Lost,
@@ -44,24 +44,24 @@ pub(crate) enum Going {
 
 /// A tree that grows node by node: the next node, the guesses so far, and how many more nodes may be split.
 #[derive(Drop)]
-pub(crate) struct Tree {
-    pub node: Node,
+struct Tree {
+    node: Node,
     plan: Vec<Planned>,
     splits: usize,
 }
 
 impl Tree {
-    /// The empty node alone, of a tree in which so many nodes may be split.
-    pub(crate) fn new(alloc: Global, splits: usize) -> Tree {
+    /// The empty node alone.
+    fn new(alloc: Global) -> Tree {
         Tree {
             node: Node::new(alloc),
             plan: Vec::new(alloc),
-            splits,
+            splits: SPLITS,
         }
     }
 
     /// The guesses, the first one last.
-    pub(crate) fn planned(self) -> Vec<Planned> {
+    fn planned(self) -> Vec<Planned> {
         let mut plan = self.plan;
         plan.reverse();
         plan
@@ -84,7 +84,7 @@ impl Tree {
     }
 
     /// Adds what there is to say of the node.
-    pub(crate) fn add(&mut self, planning: Planning) -> Result<Going, Memory> {
+    fn add(&mut self, planning: Planning) -> Result<Going, Memory> {
         match planning {
             Planning::Decided => Ok(self.turn()),
             Planning::Leaf(guess) => {
@@ -178,9 +178,32 @@ pub(crate) fn is_decided(
     Ok(false)
 }
 
+/// The guess at a node that the mix leaves open, and the decision by which it is split.
+pub(crate) fn fork(
+    alloc: Global,
+    problem: &Problem,
+    kept: &Kept,
+    goal: &Goal,
+    board: &Board,
+    mix: &Mix,
+    blame: &[u32],
+) -> Result<Option<(Guess, Decision)>, Memory> {
+    let pair = branch_pair(alloc, problem, kept, goal, board, mix, blame)?;
+    let Some((member, pairing)) = pair else {
+        return Ok(None);
+    };
+    let decision = Decision {
+        member: number(member),
+        pairing: number(pairing),
+        flies: true,
+    };
+    let mixed = mixed_of(alloc, problem, kept, mix, pair)?;
+    Ok(Some((Guess::Mixed(mixed), decision)))
+}
+
 impl MixGuide {
     /// The split of a node that the mix leaves open.
-    pub(crate) fn split(
+    fn split(
         &mut self,
         alloc: Global,
         problem: &Problem,
@@ -188,18 +211,12 @@ impl MixGuide {
         board: &Board,
         mix: Mix,
     ) -> Result<Planning, Memory> {
-        let pair = branch_pair(alloc, problem, &self.finder.kept, goal, board, &mix)?;
-        let mixed = mixed_of(alloc, problem, &self.finder.kept, &mix, pair)?;
+        let fork = fork(alloc, problem, &self.finder.kept, goal, board, &mix, &[])?;
         self.mixes.push(mix)?;
-        let Some((member, pairing)) = pair else {
-            return Ok(Planning::Lost);
-        };
-        let decision = Decision {
-            member: number(member),
-            pairing: number(pairing),
-            flies: true,
-        };
-        Ok(Planning::Split(Guess::Mixed(mixed), decision))
+        Ok(match fork {
+            Some((guess, decision)) => Planning::Split(guess, decision),
+            None => Planning::Lost,
+        })
     }
 
     /// What lenses that look at pairings one by one say of the node.
@@ -244,7 +261,7 @@ impl MixGuide {
     ) -> Result<Vec<Planned>, Memory>
         requires goal { IsGoal problem.now goal.now }
     {
-        let mut tree = Tree::new(alloc, SPLITS);
+        let mut tree = Tree::new(alloc);
         for _ in 0..PLANNED {
             let board = Board::of(alloc, problem, &tree.node)?;
             let planning = self.planned(alloc, problem, goal, &board, tree.node.len())?;

@@ -5,13 +5,12 @@ use crate::floors::goal_of;
 use crate::guide::MixGuide;
 use crate::ranges::{LevelRange, floor_of, level_of};
 use duty_calendar::Memory;
-use roster_guesses::{AGAIN, Effort, Kind, LEVELS, Solved, UNSETTLED_AT};
+use roster_guesses::{AGAIN, Effort, Kind, LEVELS, Solved};
 use roster_model::Problem;
 use std::alloc::Global;
 
 impl MixGuide {
-    /// Looks with much effort for a roster that meets a floor, at last by a tree over kept lines of which so many nodes may come to
-    /// nothing, and tells whether one was found.
+    /// Looks with much effort for a roster that meets a floor, and tells whether one was found.
     fn repair_at(
         &mut self,
         alloc: Global,
@@ -19,7 +18,6 @@ impl MixGuide {
         before: &[u32],
         floor: u32,
         may_dive: bool,
-        failures: usize,
     ) -> Result<bool, Memory>
         requires place { length before.now < length problem.now.base.members }
     {
@@ -28,39 +26,14 @@ impl MixGuide {
         match self.rooted(alloc, problem, &goal, effort)? {
             Solved::Roster(roster, _mix) => {
                 self.finder.known.add(alloc, problem, &roster)?;
-                return Ok(true);
+                Ok(true)
             }
-            Solved::Closed(_) => return Ok(false),
-            Solved::Open(_) => {}
+            Solved::Closed(_) | Solved::Open(_) => Ok(false),
         }
-        if self.master.is_none() {
-            return Ok(false);
-        }
-        self.settle_at(alloc, problem, before, floor, failures)
-    }
-
-    /// Looks among kept lines for a roster that meets a floor, and tells whether one was found.
-    fn settle_at(
-        &mut self,
-        alloc: Global,
-        problem: &Problem,
-        before: &[u32],
-        floor: u32,
-        failures: usize,
-    ) -> Result<bool, Memory>
-        requires place { length before.now < length problem.now.base.members }
-    {
-        let goal = goal_of(alloc, problem, before, floor)?;
-        let Some(roster) = self.settled(alloc, problem, &goal, failures)? else {
-            return Ok(false);
-        };
-        self.finder.known.add(alloc, problem, &roster)?;
-        Ok(true)
     }
 
     /// Long repairs by halves: where one finds no roster at a level, the next one is made halfway down to the best that is known,
-    /// else halfway up from it. The first may be at the greatest level below the high one. Once a tree
-    /// was large, so many nodes of one over kept lines may come to nothing at each.
+    /// else halfway up from it. The first may be at the greatest level below the high one.
     fn repair_by_halves(
         &mut self,
         alloc: Global,
@@ -69,7 +42,6 @@ impl MixGuide {
         levels: &[u32],
         high: usize,
         is_first: bool,
-        failures: usize,
     ) -> Result<(), Memory>
         requires place { length before.now < length problem.now.base.members }
     {
@@ -86,7 +58,7 @@ impl MixGuide {
                 low.saturating_add(high) / 2
             };
             let floor = floor_of(levels, level);
-            if !self.repair_at(alloc, problem, before, floor, is_first, failures)? {
+            if !self.repair_at(alloc, problem, before, floor, is_first)? {
                 high = level;
             }
             is_first = false;
@@ -106,7 +78,7 @@ impl MixGuide {
         requires place { length before.now < length problem.now.base.members }
     {
         if self.finder.kind(problem) == Kind::Large {
-            return self.repair_by_halves(alloc, problem, before, levels, range.high, true, 0);
+            return self.repair_by_halves(alloc, problem, before, levels, range.high, true);
         }
         let mut low = range.low;
         for turn in 0..2 {
@@ -114,7 +86,7 @@ impl MixGuide {
                 return Ok(());
             }
             let floor = floor_of(levels, range.high.saturating_sub(1));
-            self.repair_at(alloc, problem, before, floor, turn == 0, 0)?;
+            self.repair_at(alloc, problem, before, floor, turn == 0)?;
             let best = self.better(before, 0).unwrap_or(0);
             low = level_of(levels, best);
         }
@@ -134,8 +106,7 @@ impl MixGuide {
     {
         let high = levels.len();
         if self.finder.kind(problem) == Kind::Large {
-            let failures = UNSETTLED_AT;
-            return self.repair_by_halves(alloc, problem, before, levels, high, false, failures);
+            return self.repair_by_halves(alloc, problem, before, levels, high, false);
         }
         for _ in 0..AGAIN {
             let low = level_of(levels, self.better(before, 0).unwrap_or(0));
@@ -144,7 +115,7 @@ impl MixGuide {
                 return Ok(());
             }
             let top = floor_of(levels, high.saturating_sub(1));
-            if self.repair_at(alloc, problem, before, top, false, 0)? {
+            if self.repair_at(alloc, problem, before, top, false)? {
                 continue;
             }
             let is_found = half >= low.saturating_add(2)
@@ -154,7 +125,6 @@ impl MixGuide {
                     before,
                     floor_of(levels, half.saturating_sub(1)),
                     false,
-                    0,
                 )?;
             if !is_found {
                 return Ok(());

@@ -55,21 +55,16 @@ pub const AGAIN: u32 = 8;
 pub const PLANNED: usize = 25;
 
 pub const SPLITS: usize = 12;
-/// How many nodes of a tree are walked ahead of the search in a large month: a node without what shows that it is open takes 0.05 s at
-/// 40 members, and 0.18 s with it.
-pub const PLUNGED: usize = 400;
-/// How many nodes a tree of masters over kept lines may have, and how often a line may come in at one below the empty node; and how many
-/// of its nodes may come to nothing: where a tree is large, and where a level is to be reached. At the 23rd of 30 places one of 6 to 81
-/// nodes had a roster, by the costs that lines have by chance.
-pub const SETTLED: usize = 120;
-
-pub const BALANCED: u32 = 1_000;
-
-pub const UNSETTLED: usize = 12;
-
-pub const UNSETTLED_AT: usize = 4;
-/// With how many costs a tree of masters is tried where a tree is large.
-pub const SHAKEN: u32 = 2;
+/// How many nodes of a tree are walked ahead of the search in a large month: at 30 members an open one takes 0.05 to 0.5 s, and one that
+/// is closed 0.5 to 1 s.
+pub const PLUNGED: usize = 3_000;
+/// How often a line may come into a master at a node before it is worked out anew, and before it is given up: a node takes 10 to 300
+/// changes, of 0.2 ms at 30 members.
+pub const BALANCED: u32 = 3_000;
+/// How many prices are tested at a node of such a tree for which the kept lines are short: 1 to 20 were needed until they closed it.
+pub const PROVED: u32 = 100;
+/// How many prices that closed nodes are tried at others: these closed a quarter of the nodes of one tree.
+pub const LESSONS: usize = 16;
 /// Where a node is split, a share of 65,536 that is no more than this counts as none, and one that lacks no more counts as whole.
 pub const NO_PART: i64 = 655;
 /// How many pairs are looked at by programs where a node is split (strong branching), and how often something may come into each
