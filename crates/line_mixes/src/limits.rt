@@ -39,8 +39,8 @@ pub(crate) const OLD: u32 = 20_000;
 pub(crate) const CHOSEN: f64 = 0.000_000_1;
 
 pub(crate) const AWAY: f64 = 0.001;
-/// What a line takes of a row that is no more than this is nothing: with 0.00001 rows were off after some hundred changes. And how
-/// little of it there is of a row that it doesn't make.
+/// What a line takes of a row that is no more than this is nothing, and likely an error; and how little a line may take of each row that
+/// is left where it can have none of these.
 pub(crate) const FIRM: f64 = 0.001;
 
 pub(crate) const SINGULAR: f64 = 0.000_001;
@@ -50,7 +50,7 @@ pub(crate) const STALE: u32 = 300;
 /// ended by numbers that were off.
 pub(crate) const CLOSE_TO: f64 = 0.000_1;
 /// By how much a line becomes dearer, at most, than what it is worth where it comes back; and above which cost all cost what they did
-/// at first: costs that are not put back come to 10^13 after some twenty closed nodes, and nothing is found any more.
+/// at first: with costs that were never put back no line came in any more after some twenty closed nodes.
 pub(crate) const DEARER: f64 = 0.1;
 
 pub(crate) const DEAREST: f64 = 100.0;

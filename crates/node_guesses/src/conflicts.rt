@@ -8,7 +8,7 @@ use crate::paths::{Conflict, board_of};
 use closer_guide::Guess;
 use duty_calendar::Memory;
 use flat_search::Board;
-use line_mixes::Shortage;
+use line_mixes::{Kept, Shortage};
 use roster_guesses::{LESSONS, closed_with};
 use roster_model::{Decision, Goal, Problem};
 use std::alloc::Global;
@@ -56,6 +56,15 @@ impl Lore {
             *blame = 0;
         }
     }
+}
+
+/// How many lines are kept.
+pub(crate) fn count_kept(problem: &Problem, kept: &Kept) -> usize {
+    let mut count: usize = 0;
+    for member in 0..problem.base.members.len() {
+        count = count.saturating_add(kept.len(member));
+    }
+    count
 }
 
 /// The numbers of the decisions that are about the pairing, and say this of it.

@@ -78,6 +78,15 @@ pub(crate) fn joined(
     Ok(Conflict { reasons, plan })
 }
 
+/// All numbers below this.
+pub(crate) fn all_below(alloc: Global, count: usize) -> Result<Vec<usize>, Memory> {
+    let mut all = Vec::new(alloc);
+    for number in 0..count {
+        all.push(number)?;
+    }
+    Ok(all)
+}
+
 /// The board of those of the decisions that are wanted.
 pub(crate) fn board_of(
     alloc: Global,

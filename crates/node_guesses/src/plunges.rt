@@ -4,10 +4,10 @@
 ghost use Rattle.std.specs.Prelude.{◌≡◌};
 ghost use Rattle.roster_model.specs.Goals.{IsGoal};
 
-use crate::conflicts::decided_reasons;
+use crate::conflicts::{count_kept, decided_reasons};
 use crate::guess::mixed_of;
 use crate::guide::MixGuide;
-use crate::paths::{Conflict, Path, Step, board_of, joined};
+use crate::paths::{Conflict, Path, Step, all_below, board_of, joined};
 use crate::plans::{Planned, fork, is_decided, next_planned};
 use closer_guide::Guess;
 use duty_calendar::Memory;
@@ -31,15 +31,6 @@ enum Reached {
 enum Plunged {
     Roster(Roster),
     Tree(Vec<Planned>),
-}
-
-/// All numbers below this.
-fn all_below(alloc: Global, count: usize) -> Result<Vec<usize>, Memory> {
-    let mut all = Vec::new(alloc);
-    for number in 0..count {
-        all.push(number)?;
-    }
-    Ok(all)
 }
 
 impl MixGuide {
@@ -84,7 +75,7 @@ impl MixGuide {
         }
     }
 
-    /// What a node comes to by kept lines, and by searches for lines where these are short.
+    /// What a node comes to by kept lines, and by searches for lines where these are short, as long as they find some.
     fn mastered(
         &mut self,
         alloc: Global,
@@ -107,9 +98,13 @@ impl MixGuide {
                 }
                 Balance::Lost => return Ok(Reached::Lost),
             };
+            let before = count_kept(problem, &self.finder.kept);
             let found = self.shown_conflict(alloc, problem, goal, decisions, &shortage)?;
             if let Some(conflict) = found {
                 return Ok(Reached::Closed(conflict));
+            }
+            if count_kept(problem, &self.finder.kept) == before {
+                return Ok(Reached::Lost);
             }
         }
         Ok(Reached::Lost)
