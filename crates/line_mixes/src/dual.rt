@@ -31,7 +31,7 @@ impl Master {
         }
     }
 
-    /// The row that is farthest from what it may have, as the crow flies.
+    /// The row that is farthest from what it may have, for the length of its row of the inverse (the steepest edge).
     fn leaving(&self) -> Option<usize> {
         let mut best = None;
         let mut most = 0.0;

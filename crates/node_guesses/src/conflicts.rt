@@ -134,7 +134,7 @@ pub(crate) fn decided_reasons(
 }
 
 impl MixGuide {
-    /// The conflict by the shortage of kept lines, if its weights close the node of the reasons; else lines were kept.
+    /// The conflict by the shortage of kept lines, if its weights close the node of the reasons. Lines that are found on the way are kept.
     pub(crate) fn proved(
         &mut self,
         alloc: Global,

@@ -61,7 +61,8 @@ pub const PLUNGED: usize = 3_000;
 /// How often a line may come into a master at a node before it is worked out anew, and before it is given up: a node takes 10 to 300
 /// changes, of 0.2 ms at 30 members.
 pub const BALANCED: u32 = 3_000;
-/// How many prices are tested at a node of such a tree for which the kept lines are short: 1 to 20 were needed until they closed it.
+/// How many prices are tested at a node of such a tree for which the kept lines are short: 1 to 20 were needed where
+/// they closed it; where none finds another line, it is left sooner.
 pub const PROVED: u32 = 100;
 /// How many prices that closed nodes are tried at others: these closed a quarter of the nodes of one tree.
 pub const LESSONS: usize = 16;
