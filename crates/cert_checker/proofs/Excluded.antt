@@ -1,6 +1,6 @@
 -- No item is accepted at a node where it has a fault.
-use Rattle.std.proofs.Common.{◌≡◌, ℕ, ◌<◌, inl, inr, List, length, get_or, sym, ap, ◌∙◌, arith}
-use Rattle.std.specs.Prelude.{ℤ, pos}
+use Rattle.std.proofs.Common.{◌≡◌, ℕ, ◌<◌, inl, inr, List, length, get_or, sym, ◌∙◌, arith}
+use Rattle.std.specs.Prelude.{ℤ, pos, ◌≤ℤ◌}
 use Rattle.std.proofs.lemmas.Bool.{false≢true}
 use Rattle.std.proofs.lemmas.Int.{ints}
 use Rattle.std.proofs.lemmas.Option.{slice_get-get_or, slice_get_within}
@@ -17,7 +17,7 @@ use Rattle.cert_checker.specs.declared.refusal.ItemFault.{ItemFault}
 use Rattle.cert_checker.specs.declared.refusal.ItemFault.TheVariants as fault
 use Rattle.cert_checker.specs.Faults.{Fails, SplitFails, CountFails, FixedFails, NoLineFails, WeightsFails, IsFirstLineless, IsHeavyEnough}
 use Rattle.cert_checker.proofs.Shapes.{lens_excluded}
-use Rattle.cert_checker.proofs.Together.{bests_unique}
+use Rattle.cert_checker.proofs.Together.{bests_least}
 
 pub split_excluded : (problem : Problem) (node : List Decision) (m p : ℕ) (why : ItemFault)
     → IsOpenPair problem node m p → SplitFails problem node m p why → ⊥
@@ -77,22 +77,21 @@ noline_excluded problem goal node m lens (fault.Nothing k) ok h = h
 noline_excluded problem goal node m lens (fault.Sum lines needs) ok h = h
 noline_excluded problem goal node m lens (fault.Width w l) ok h = h
 
--- a member of whom no line passes has no best line
+-- a member of whom no line passes has no bound
 nothing_excluded : (problem : Problem) (goal : Goal) (node : List Decision) (weights : List ℤ) (lenses : List Lens) (k : ℕ)
     → IsOutweighed problem goal node weights lenses → IsFirstLineless problem goal node lenses k → ⊥
 nothing_excluded problem goal node weights lenses k ok h =
-    let lt : k < length ok.bests = omega (arith, slice_get_within lenses k h.lens h.here, ok.per_member, ok.each) in
-    let best = ok.best k h.lens (get_or ok.bests k (pos 0)) h.here (slice_get-get_or ok.bests k (pos 0) lt) in
-    h.none best.attained.0 best.attained.1
+    let lt : k < length ok.bounds = omega (arith, slice_get_within lenses k h.lens h.here, ok.per_member, ok.each) in
+    let bound = ok.bound k h.lens (get_or ok.bounds k (pos 0)) h.here (slice_get-get_or ok.bounds k (pos 0) lt) in
+    h.none bound.some.0 bound.some.1
 
 -- what is outweighed is not heavy enough
 heavy_excluded : (problem : Problem) (goal : Goal) (node : List Decision) (weights : List ℤ) (lenses : List Lens) (lines needs : ℤ)
     → IsOutweighed problem goal node weights lenses → IsHeavyEnough problem goal node weights lenses lines needs → ⊥
 heavy_excluded problem goal node weights lenses lines needs ok h =
-    let same : h.bests ≡ ok.bests =
-    bests_unique problem goal node weights lenses h.bests ok.bests (h.each ∙ sym ok.per_member) (ok.each ∙ sym ok.per_member) h.best ok.best in
-    let sums = ap total same in
-    omega (arith, ints, ok.less, h.enough, h.lines_are, h.needs_are, sums)
+    let least : total h.bests ≤ℤ total ok.bounds =
+    bests_least problem goal node weights lenses h.bests ok.bounds (h.each ∙ sym ok.per_member) (ok.each ∙ sym ok.per_member) h.best ok.bound in
+    omega (arith, ints, ok.less, h.enough, h.lines_are, h.needs_are, least)
 
 weights_excluded : (problem : Problem) (goal : Goal) (node : List Decision) (weights : List ℤ) (lenses : List Lens) (why : ItemFault)
     → IsOutweighed problem goal node weights lenses → WeightsFails problem goal node weights lenses why → ⊥

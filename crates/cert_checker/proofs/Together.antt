@@ -1,19 +1,18 @@
 -- What best lines weigh together, and how much that can be.
-use Rattle.std.proofs.Common.{◌≡◌, ℕ, zero, suc, ◌+◌, ◌*◌, ◌<◌, ◌≤◌, List, [], ◌∷◌, ◌++◌, Option, Some, length, get_or, refl, sym, ap, subst, ◌∙◌, arith, inl, inr, ◌⊎◌, length-append, false, FitsSigned, w64, to_z, of_z}
-use Rattle.std.specs.Prelude.{ℤ, pos, ◌+ℤ◌, ◌*ℤ◌, ◌≤ℤ◌, slice_get}
+use Rattle.std.proofs.Common.{◌≡◌, ℕ, zero, suc, ◌+◌, ◌*◌, ◌<◌, ◌≤◌, List, [], ◌∷◌, ◌++◌, Option, Some, length, get_or, refl, sym, ap, subst, ◌∙◌, arith, inl, inr, ◌⊎◌, length-append, false, true, FitsSigned, w64, to_z, of_z}
+use Rattle.std.specs.Prelude.{ℤ, pos, ◌+ℤ◌, ◌*ℤ◌, ◌≤ℤ◌, ◌<ℤ◌, slice_get}
 use Rattle.std.specs.Option.{option_map_or}
 use Rattle.std.proofs.lemmas.Bool.{cases_lt}
 use Rattle.std.proofs.lemmas.Int.{ints, to_z-of_z, fits_signed_from_abs}
 use Rattle.std.proofs.Math.IntN.{negsuc}
 use Rattle.std.specs.Int.Signed.{lt_z}
-use Rattle.std.proofs.lemmas.List.{ext_get_or}
-use Rattle.std.proofs.lemmas.Option.{slice_get-get_or, slice_get_cases, slice_get_within}
+use Rattle.std.proofs.lemmas.Option.{slice_get-get_or, slice_get_within}
 use Rattle.duty_calendar.specs.declared.pairing.Pairing.{Pairing}
 use Rattle.roster_model.specs.declared.problem.Problem.{Problem}
 use Rattle.roster_model.specs.declared.goal.Goal.{Goal}
 use Rattle.roster_model.specs.declared.node.Decision.{Decision}
 use Rattle.roster_model.specs.declared.proof.Lens.{Lens}
-use Rattle.roster_model.specs.Lenses.{IsLens, IsLensLine, IsBestWeight, HasNoLine, AreLenses, AreBestWeights}
+use Rattle.roster_model.specs.Lenses.{IsLens, IsLensLine, IsBestWeight, HasNoLine, IsOutweighed, AreLenses, IsWeightBound, AreBestWeights, AreWeightBounds}
 use Rattle.roster_model.specs.Rosters.{need_of}
 use Rattle.roster_model.specs.Weights.{AreSmallWeights, weight_at, weight_of, sum_below, needed_weight, total}
 use Rattle.roster_model.proofs.Bounds.{ascending-length}
@@ -22,7 +21,8 @@ use Rattle.cert_checker.specs.declared.refusal.ItemFault.TheVariants as fault
 use Rattle.cert_checker.specs.declared.refusal.StepFault.{StepFault}
 use Rattle.cert_checker.specs.declared.refusal.StepFault.TheVariants as step
 use Rattle.cert_checker.specs.Faults.{AreWide, IsFirstLineless, IsHeavyEnough, WeightsFails, IsStepFault}
-use Rattle.cert_checker.specs.Bests.{IsWithin, IsNothingFault, IsLinelessFault, WeighTogether}
+use Rattle.cert_checker.specs.Given.{AreQuestions}
+use Rattle.cert_checker.specs.Bests.{IsWithin, IsNothingFault, IsLinelessFault, WeighTogether, BoundTogether}
 use Rattle.cert_checker.proofs.Shapes.{has_line}
 
 -- an element of a list that got one more is an old one, or the new one
@@ -143,27 +143,97 @@ pub shapes_all : (problem : Problem) (lenses : List Lens) (k : ℕ) → length l
 shapes_all problem lenses k le before m other at =
     before m other (omega (arith, slice_get_within lenses m other at)) at
 
--- best weights are unique, and so is what they weigh together
-best_unique : (problem : Problem) (m : ℕ) (goal : Goal) (node : List Decision) (lens : Lens) (weights : List ℤ) (a b : ℤ)
-    → IsBestWeight problem m goal node lens weights a → IsBestWeight problem m goal node lens weights b → a ≡ b
-best_unique problem m goal node lens weights a b x y =
-    let le = y.most x.attained.0 x.attained.1 in
-    let ge = x.most y.attained.0 y.attained.1 in
-    omega (arith, ints, le, ge, x.attained.2, y.attained.2)
+-- best weights are bounds, and the least ones together
+total-le : {L : Type 0} (lenses : List L) (xs ys : List ℤ) → length xs ≡ length lenses → length ys ≡ length lenses
+    → ((m : ℕ) (lens : L) (x y : ℤ) → slice_get lenses m ≡ Some lens → slice_get xs m ≡ Some x → slice_get ys m ≡ Some y → x ≤ℤ y)
+    → total xs ≤ℤ total ys
+total-le [] [] [] ex ey h = omega (arith, ints)
+total-le [] [] (y ∷ ys) ex ey h = absurd (omega arith)
+total-le [] (x ∷ xs) ys ex ey h = absurd (omega arith)
+total-le (l ∷ ls) [] ys ex ey h = absurd (omega arith)
+total-le (l ∷ ls) (x ∷ xs) [] ex ey h = absurd (omega arith)
+total-le (l ∷ ls) (x ∷ xs) (y ∷ ys) ex ey h =
+    omega (
+      arith,
+      ints,
+      h 0 l x y refl refl refl,
+      total-le ls xs ys (omega arith) (omega arith) (λ m lens a b at here there. h (suc m) lens a b at here there),
+    )
 
-pub bests_unique : (problem : Problem) (goal : Goal) (node : List Decision) (weights : List ℤ) (lenses : List Lens) (xs ys : List ℤ)
-    → length xs ≡ length lenses → length ys ≡ length lenses
-    → AreBestWeights problem goal node weights lenses xs → AreBestWeights problem goal node weights lenses ys → xs ≡ ys
-bests_unique problem goal node weights lenses xs ys ex ey bx by =
-    ext_get_or (pos 0) xs ys (ex ∙ sym ey)
-    (λ m lt.
-    elim (slice_get_cases lenses m).1 [
-      | inl found ↦
-          best_unique problem m goal node found.0 weights (get_or xs m (pos 0)) (get_or ys m (pos 0))
-          (bx m found.0 (get_or xs m (pos 0)) found.2 (slice_get-get_or xs m (pos 0) lt))
-          (by m found.0 (get_or ys m (pos 0)) found.2 (slice_get-get_or ys m (pos 0) (omega (arith, ex, ey))))
-      | inr past ↦ absurd (omega (arith, past.0, ex))
-    ])
+pub bests_least : (problem : Problem) (goal : Goal) (node : List Decision) (weights : List ℤ) (lenses : List Lens) (bests bounds : List ℤ)
+    → length bests ≡ length lenses → length bounds ≡ length lenses → AreBestWeights problem goal node weights lenses bests
+    → AreWeightBounds problem goal node weights lenses bounds → total bests ≤ℤ total bounds
+bests_least problem goal node weights lenses bests bounds eb ec best bound =
+    total-le lenses bests bounds eb ec
+    (λ m lens x y at here there.
+    let own = best m lens x at here in
+    let most = (bound m lens y at there).most own.attained.0 own.attained.1 in
+    omega (arith, ints, most, own.attained.2))
+
+pub best_bounds : (problem : Problem) (goal : Goal) (node : List Decision) (weights : List ℤ) (lenses : List Lens) (bests : List ℤ)
+    → AreBestWeights problem goal node weights lenses bests → AreWeightBounds problem goal node weights lenses bests
+best_bounds problem goal node weights lenses bests best m lens bound at here =
+    let own = best m lens bound at here in
+    record { some = (own.attained.0, own.attained.1); most = own.most }
+
+-- one bound more
+pub bound_more : (problem : Problem) (goal : Goal) (node : List Decision) (weights : List ℤ) (lenses : List Lens) (k : ℕ) (sum new bound : ℤ) (lens : Lens)
+    → BoundTogether problem goal node weights lenses k sum → slice_get lenses k ≡ Some lens
+    → IsWeightBound problem k goal node lens weights bound → new ≡ sum +ℤ bound
+    → BoundTogether problem goal node weights lenses (k + 1) new
+bound_more problem goal node weights lenses k sum new bound lens old here is e = record {
+  bounds = old.bounds ++ bound ∷ [];
+  each = length-append old.bounds (bound ∷ []) ∙ ap (λ (n : ℕ). n + 1) old.each;
+  bound =
+      λ m other b at got.
+      elim (get_pushed old.bounds bound m b got) [
+        | inl before ↦ old.bound m other b at before
+        | inr last ↦
+            let same : m ≡ k = last.0 ∙ old.each in
+            let lens_is : lens ≡ other = let e : Some lens ≡ Some other = sym here ∙ ap (slice_get lenses) (sym same) ∙ at in cc in
+            subst (λ (n : ℕ). IsWeightBound problem n goal node other weights b) (sym same)
+            (subst (λ (l : Lens). IsWeightBound problem k goal node l weights b) lens_is
+            (subst (λ (z : ℤ). IsWeightBound problem k goal node lens weights z) (sym last.1) is))
+      ];
+  sum_is = e ∙ ap (λ (z : ℤ). z +ℤ bound) old.sum_is ∙ sym (total-push old.bounds bound);
+}
+
+-- bounds that are less than the needs
+pub bounds_light : (problem : Problem) (goal : Goal) (node : List Decision) (weights : List ℤ) (lenses : List Lens) (sum needs : ℤ)
+    → AreQuestions problem goal node weights lenses → BoundTogether problem goal node weights lenses (length lenses) sum
+    → needs ≡ needed_weight problem weights → sum <ℤ needs → IsOutweighed problem goal node weights lenses
+bounds_light problem goal node weights lenses sum needs asked all needs_are less = record {
+  per_pairing = asked.per_pairing;
+  per_member = asked.per_member;
+  small = asked.small;
+  shapes = asked.shapes;
+  bounds = all.bounds;
+  each = all.each ∙ asked.per_member;
+  bound = all.bound;
+  less = omega (arith, ints, less, needs_are, all.sum_is);
+}
+
+-- best lines that weigh less than the needs
+less_than : (x y : ℤ) → lt_z x y ≡ true → x <ℤ y
+less_than x y e = grind (arith, ints)
+
+pub light_from : (problem : Problem) (goal : Goal) (node : List Decision) (weights wide again : List ℤ) (lenses : List Lens) (lines needs lines' needs' : ℤ)
+    → wide ≡ weights → again ≡ weights → lines' ≡ lines → needs' ≡ needs → AreWide problem weights lenses → AreLenses problem lenses → AreSmallWeights weights
+    → WeighTogether problem goal node wide lenses (length lenses) lines → needs ≡ needed_weight problem again → lt_z lines' needs' ≡ true
+    → IsOutweighed problem goal node weights lenses
+light_from problem goal node weights wide again lenses lines needs lines' needs' same same' same_lines same_needs widths shapes small all needs_are less =
+    let moved = subst (λ (ys : List ℤ). WeighTogether problem goal node ys lenses (length lenses) lines) same all in
+    let needed = subst (λ (ys : List ℤ). needs ≡ needed_weight problem ys) same' needs_are in
+    record {
+      per_pairing = widths.per_pairing;
+      per_member = widths.per_member;
+      small = small;
+      shapes = shapes;
+      bounds = moved.bests;
+      each = moved.each ∙ widths.per_member;
+      bound = best_bounds problem goal node weights lenses moved.bests moved.best;
+      less = omega (arith, ints, less_than lines' needs' less, same_lines, moved.sum_is, same_needs, needed);
+    }
 
 -- what is needed of one pairing more
 sum_more : (f : ℕ → ℤ) (k n : ℕ) → n ≡ suc k → sum_below f n ≡ sum_below f k +ℤ f k

@@ -4,7 +4,7 @@ use Rattle.roster_model.specs.declared.problem.Problem.{Problem}
 use Rattle.roster_model.specs.declared.goal.Goal.{Goal}
 use Rattle.roster_model.specs.declared.node.Decision.{Decision}
 use Rattle.roster_model.specs.declared.proof.Lens.{Lens}
-use Rattle.roster_model.specs.Lenses.{HasNoLine, AreBestWeights}
+use Rattle.roster_model.specs.Lenses.{HasNoLine, AreBestWeights, AreWeightBounds}
 use Rattle.roster_model.specs.Weights.{total}
 use Rattle.line_lens.specs.LensFaults.{IsLensFault}
 use Rattle.cert_checker.specs.declared.refusal.ItemFault.{ItemFault}
@@ -27,6 +27,19 @@ pub record WeighTogether (problem : Problem) (goal : Goal) (node : List Decision
 abbrev pub LinesWeigh : Problem → Goal → List Decision → List ℤ → List Lens → ℤ → Type 0
 LinesWeigh problem goal node weights lenses =
     WeighTogether problem goal node weights lenses (length lenses)
+
+-- so many bounds on what lines weigh, one for each of the first members' lenses, are so much together
+pub record BoundTogether (problem : Problem) (goal : Goal) (node : List Decision)
+    (weights : List ℤ) (lenses : List Lens) (count : ℕ) (sum : ℤ) : Type 0 where
+  pub bounds : List ℤ
+  pub each : length bounds ≡ count
+  pub bound : AreWeightBounds problem goal node weights lenses bounds
+  pub sum_is : sum ≡ total bounds
+
+-- bounds, one for each lens, are so much together
+abbrev pub BoundsWeigh : Problem → Goal → List Decision → List ℤ → List Lens → ℤ → Type 0
+BoundsWeigh problem goal node weights lenses =
+    BoundTogether problem goal node weights lenses (length lenses)
 
 -- the lens of the member has not its shape
 abbrev pub IsShapeFault : Problem → ℕ → Lens → ItemFault → Type 0

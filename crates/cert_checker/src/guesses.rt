@@ -6,7 +6,9 @@ ghost use Rattle.roster_model.specs.Goals.{IsGoal};
 use crate::fixed::{is_bid_met, is_floor_met};
 use crate::noted::Noted;
 use crate::witness::is_in_range;
+use duty_calendar::Memory;
 use roster_model::{Decision, Goal, Line, Node, Problem};
+use std::alloc::Global;
 
 /// So many of the lines that were noted last are looked at.
 const MOST_LOOKED_AT: usize = 2048;
@@ -60,4 +62,34 @@ pub(crate) fn guessed_bound(
         }
     }
     best
+}
+
+/// What the heaviest of each member's lines weighs that were noted of late and may pass, if there is one of each.
+pub(crate) fn guessed_mosts(
+    alloc: Global,
+    problem: &Problem,
+    noted: &[Noted],
+    goal: &Goal,
+    node: &Node,
+    weights: &[i64],
+) -> Result<Option<Vec<i64>>, Memory>
+    requires goal { IsGoal problem.now goal.now }
+{
+    let mut mosts = Vec::new(alloc);
+    for member in 0..problem.base.members.len() as u32 {
+        let Some(bound) = guessed_bound(problem, noted, member, goal, node, weights) else {
+            return Ok(None);
+        };
+        mosts.push(bound.saturating_add(1))?;
+    }
+    Ok(Some(mosts))
+}
+
+/// How much more than this all together may weigh and be less than the needs.
+pub(crate) fn spare_of(mosts: &[i64], needs: i64) -> i64 {
+    mosts
+        .iter()
+        .fold(needs.saturating_sub(1), |spare: i64, most| {
+            spare.saturating_sub(*most)
+        })
 }

@@ -4,6 +4,7 @@
 
 mod award;
 mod bests;
+mod bounded;
 mod count;
 mod fixed;
 mod goals;

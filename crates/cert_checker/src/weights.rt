@@ -7,7 +7,9 @@ ghost use Rattle.cert_checker.specs.Faults.{AreWide, FindsMisshapen, IsStepFault
 ghost use Rattle.cert_checker.specs.Bests.{IsLinelessFault, IsNothingFault, IsWithin, LinesWeigh};
 ghost use Rattle.cert_checker.specs.Recalls.{IsRight};
 
-use crate::recall::{Recall, recalled_weight};
+use crate::bounded::is_bounded;
+use crate::noted::noted_weight;
+use crate::recall::Recall;
 use crate::refusal::{ItemFault, StepFault};
 use duty_calendar::Memory;
 use line_lens::{LensFault, check_lens};
@@ -90,7 +92,8 @@ fn line_weight(
         (IsNothingFault problem.now goal.now node.now member lens.now)) }
     ensures right { IsRight problem.now recall.new }
 {
-    match recalled_weight(alloc, problem, recall, member, goal, node, lens, weights)? {
+    let noted = &mut recall.noted;
+    match noted_weight(alloc, problem, noted, member, goal, node, lens, weights)? {
         Some(weight) => Ok(weight),
         None => Err(StepFault::Of(ItemFault::Nothing(member))),
     }
@@ -160,8 +163,11 @@ pub(crate) fn outweighed(
         return Err(StepFault::Of(ItemFault::Lens(member, why)));
     }
     let wide = widened(alloc, weights)?;
-    let lines = best_weights(alloc, problem, recall, goal, node, &wide, lenses)?;
     let needs = needed_weight(problem, &wide);
+    if is_bounded(alloc, problem, recall, goal, node, &wide, lenses, needs)? {
+        return Ok(());
+    }
+    let lines = best_weights(alloc, problem, recall, goal, node, &wide, lenses)?;
     if lines < needs {
         return Ok(());
     }

@@ -3,12 +3,13 @@
 use duty_calendar::List;
 use roster_model::{Lens, Line, Roster};
 
-/// Weights under which the lines of the members, each by its lens, may weigh less than the needs; and for each member a
-/// bound that its lines may come above.
+/// Weights under which the lines of the members, each by its lens, may weigh less than the needs: for each member a bound that its
+/// lines may not come above, and a line that may be legal, meet the goal and obey the node, if one is known.
 #[derive(Drop)]
 pub struct Bounded {
     pub weights: Vec<i64>,
     pub bounds: Vec<i64>,
+    pub lines: Vec<Option<Line>>,
     pub lenses: List<Lens>,
 }
 

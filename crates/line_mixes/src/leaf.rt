@@ -10,13 +10,12 @@ use roster_model::{Lens, Problem};
 use std::alloc::Global;
 use std::mem::replace;
 
-/// Weights under which the lines of the members, each by its lens, are likely to fall short of the needs. Each member has a
-/// line above its bound, and likely none above what stands among the overs.
+/// Weights under which the lines of the members, each by its lens, are likely to fall short of the needs: none is likely to be above
+/// what stands for its member among the overs, and these are less than the needs.
 #[derive(Drop)]
 pub struct Bounded {
     pub weights: Vec<i64>,
     pub lenses: List<Lens>,
-    pub bounds: Vec<i64>,
     pub overs: Vec<i64>,
 }
 
@@ -188,16 +187,31 @@ impl Leaf {
         }
     }
 
-    /// The leaf under these weights, if it closes the node.
+    /// How much more the lines of each member may weigh than what they are known not to be above, so that all weigh less than the
+    /// needs.
+    fn spare(&self) -> i64 {
+        let mut spare = self.balance.needed.wrapping_sub(1);
+        for over in &self.overs {
+            spare = spare.wrapping_sub(*over);
+        }
+        let members = i64::from(number(self.overs.len()));
+        spare.checked_div(members).unwrap_or(0).max(0)
+    }
+
+    /// The leaf under these weights, if it closes the node. What is left of the needs is shared by all members.
     pub fn closed(self, weights: Vec<i64>) -> Option<Bounded> {
         if !self.is_closing {
             return None;
         }
+        let spare = self.spare();
+        let mut overs = self.overs;
+        for over in overs.iter_mut() {
+            *over = over.wrapping_add(spare);
+        }
         Some(Bounded {
             weights,
             lenses: self.lenses,
-            bounds: self.bounds,
-            overs: self.overs,
+            overs,
         })
     }
 }

@@ -31,5 +31,5 @@ pub use leaf::{Bounded, Leaf};
 pub use master::Master;
 pub use mix::Mix;
 pub use program::Program;
-pub use shares::{Share, WHOLE, needed};
+pub use shares::{Share, WHOLE};
 pub use shortage::Shortage;

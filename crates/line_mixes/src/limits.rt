@@ -39,6 +39,9 @@ pub(crate) const OLD: u32 = 20_000;
 pub(crate) const CHOSEN: f64 = 0.000_000_1;
 
 pub(crate) const AWAY: f64 = 0.001;
+/// The greatest price that a shortage shows, in whole numbers: of 131,072 a sixth of the nodes of one tree were not closed, since what
+/// lines were short of was rounded away.
+pub(crate) const FINEST: i64 = 16_777_216;
 /// What a line takes of a row that is no more than this is nothing, and likely an error; and how little a line may take of each row that
 /// is left where it can have none of these.
 pub(crate) const FIRM: f64 = 0.001;

@@ -2,8 +2,8 @@
 //! reasons for that (a conflict).
 
 use crate::kept::Kept;
-use crate::limits::AWAY;
-use crate::shares::{WHOLE, needed, weigh};
+use crate::limits::{AWAY, FINEST};
+use crate::shares::{needed, weigh};
 use crate::simplex::add_up;
 use duty_calendar::Memory;
 use flat_search::{Board, PairingSet, number};
@@ -169,7 +169,7 @@ impl Shortage {
         Ok(if short > 0 { Some(shortage) } else { None })
     }
 
-    /// The weights in whole numbers, of which the greatest is twice a whole share.
+    /// The weights in whole numbers.
     pub fn weights(&self, alloc: Global) -> Result<Vec<i64>, Memory> {
         let mut most: f64 = 0.0;
         for weight in &self.weights {
@@ -177,7 +177,7 @@ impl Shortage {
         }
         let mut weights = Vec::new(alloc);
         for weight in &self.weights {
-            let scaled = *weight / most * nearest_i64_to_f64(2 * WHOLE);
+            let scaled = *weight / most * nearest_i64_to_f64(FINEST);
             weights.push(saturating_f64_to_i64(scaled.round()))?;
         }
         Ok(weights)

@@ -1,5 +1,6 @@
 //! What a closer asks of the guide by mixes.
 
+use crate::guess::with_lines;
 use crate::guide::MixGuide;
 use closer_guide::{FloorGuess, Guess, Guide};
 use duty_calendar::Memory;
@@ -18,7 +19,8 @@ impl Guide for MixGuide {
         goal: &Goal,
         node: &Node,
     ) -> Result<Guess, Memory> {
-        self.guess_at(alloc, problem, goal, node)
+        let guess = self.guess_at(alloc, problem, goal, node)?;
+        with_lines(alloc, problem, &self.finder.kept, goal, node, guess)
     }
 
     fn note(&mut self, alloc: Global, problem: &Problem, roster: &Roster) -> Result<(), Memory> {

@@ -241,7 +241,7 @@ impl MixGuide {
             Relaxed::Open(mix) => mix,
             Relaxed::Bounded(leaf) => {
                 let leaf = plainer(alloc, problem, kept, goal, board, leaf)?;
-                return Ok(Planning::Leaf(Guess::Bounded(bounded_of(leaf))));
+                return Ok(Planning::Leaf(Guess::Bounded(bounded_of(alloc, leaf))));
             }
             Relaxed::NoLine(member, lens) => {
                 return Ok(Planning::Leaf(Guess::NoLine(member, lens)));

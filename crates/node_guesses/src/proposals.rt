@@ -3,13 +3,14 @@ ghost use Rattle.std.specs.Prelude.{◌<◌, length};
 
 use crate::climb::Climb;
 use crate::floors::goal_of;
+use crate::guess::with_lines;
 use crate::guide::MixGuide;
 use crate::levels::levels;
 use crate::ranges::level_of;
 use closer_guide::FloorGuess;
 use duty_calendar::{Copied, Memory};
 use roster_guesses::{Relaxed, is_worth_while};
-use roster_model::Problem;
+use roster_model::{Node, Problem};
 use std::alloc::Global;
 
 impl MixGuide {
@@ -130,6 +131,8 @@ impl MixGuide {
         let goal = goal_of(alloc, problem, before, floor)?;
         let root = self.tested(alloc, floor)?;
         let guess = self.guess_root(alloc, problem, &goal, root)?;
+        let (kept, node) = (&self.finder.kept, Node::new(alloc));
+        let guess = with_lines(alloc, problem, kept, &goal, &node, guess)?;
         Ok(FloorGuess {
             floor,
             guess: Some(guess),

@@ -5,8 +5,8 @@ ghost use Rattle.roster_model.specs.Goals.{IsGoal};
 use crate::pricing::{Priced, price_afresh};
 use crate::testing::Tried;
 use duty_calendar::Memory;
-use flat_search::{Board, Care, Pricing, is_first, number};
-use line_mixes::{Bounded, Kept, needed};
+use flat_search::{Board, Care, Pricing, is_first};
+use line_mixes::{Bounded, Kept};
 use roster_model::{Goal, Lens, Problem};
 use std::alloc::Global;
 
@@ -91,16 +91,6 @@ pub fn plainer_without_line(
     }
 }
 
-/// How much more each member may weigh than this, so that all weigh less than the needs.
-fn spare_of(problem: &Problem, overs: &[i64], weights: &[i64]) -> i64 {
-    let mut spare = needed(problem, weights).wrapping_sub(1);
-    for over in overs {
-        spare = spare.wrapping_sub(*over);
-    }
-    let members = i64::from(number(overs.len()));
-    spare.checked_div(members).unwrap_or(0).max(0)
-}
-
 /// The leaf with lenses that see no more than they have to.
 pub fn plainer(
     alloc: Global,
@@ -113,17 +103,11 @@ pub fn plainer(
     requires goal { IsGoal problem.now goal.now }
 {
     let mut leaf = leaf;
-    let spare = spare_of(problem, &leaf.overs, &leaf.weights);
     for member in 0..problem.base.members.len() {
         let Some(lens) = leaf.lenses.as_slice().get(member) else {
             continue;
         };
-        let over = leaf
-            .overs
-            .get(member)
-            .copied()
-            .unwrap_or(0)
-            .wrapping_add(spare);
+        let over = leaf.overs.get(member).copied().unwrap_or(0);
         let tried = Tried {
             board,
             weights: &leaf.weights,

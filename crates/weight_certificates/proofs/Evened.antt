@@ -151,18 +151,18 @@ module _ (problem : Problem) (goal : Goal) (node : List Decision) where
             per_member = per_member;
             small = small;
             shapes = shapes;
-            bests = map (weight_of weights) round;
+            bounds = map (weight_of weights) round;
             each = length-map round (weight_of weights) ∙ heavy.lines;
-            best =
-                λ m lens best at got.
-                let inside : m < length round = omega (arith, slice_get_within (map (weight_of weights) round) m best got, length-map round (weight_of weights)) in
+            bound =
+                λ m lens bound at got.
+                let inside : m < length round = omega (arith, slice_get_within (map (weight_of weights) round) m bound got, length-map round (weight_of weights)) in
                 let here = heavy.each m lens (omega (arith, inside, heavy.lines)) at in
                 let found = slice_get-get_or round m [] inside in
                 let mapped : slice_get (map (weight_of weights) round) m ≡ Some (weight_of weights (line_at round m)) =
                 slice_get-map (weight_of weights) round m ∙ ap (λ (o : Option (List ℕ)). option_map (weight_of weights) o) found in
-                let value : weight_of weights (line_at round m) ≡ best = let e : Some (weight_of weights (line_at round m)) ≡ Some best = sym mapped ∙ got in cc in
+                let value : weight_of weights (line_at round m) ≡ bound = let e : Some (weight_of weights (line_at round m)) ≡ Some bound = sym mapped ∙ got in cc in
                 record {
-                  attained = (line_at round m, here.passes, value);
+                  some = (line_at round m, here.passes);
                   most = λ line passes. omega (arith, ints, here.most line passes, value);
                 };
             less = omega (arith, ints, product_is, product-misses weights miss round is weighted, turned, weighed, total-map weights round, less);

@@ -1,4 +1,3 @@
-pub mod Turned
 pub mod Lines
 pub mod Facts
 pub mod RowSums
@@ -7,3 +6,4 @@ pub mod Evened
 pub mod Raised
 pub mod OpenOrWhole
 pub mod ColumnSteps
+pub mod Bounded

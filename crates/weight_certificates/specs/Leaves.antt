@@ -1,32 +1,15 @@
 -- Nodes that neither crews nor decided lines close.
-use Rattle.std.specs.Prelude.{◌≡◌, ℕ, ◌<◌, ◌≤◌, true, false, List, length, slice_get}
-use Rattle.std.specs.Option.{ForSome}
+use Rattle.std.specs.Prelude.{◌≡◌, ℕ, ◌<◌, false, List, length}
 use Rattle.roster_model.specs.declared.problem.Problem.{Problem}
 use Rattle.roster_model.specs.declared.goal.Goal.{Goal}
 use Rattle.roster_model.specs.declared.node.Decision.{Decision}
 use Rattle.roster_model.specs.Decided.{is_decided}
-use Rattle.roster_model.specs.Scores.{score_of, is_granted}
-use Rattle.roster_model.specs.Legality.{IsLegal}
-use Rattle.roster_model.specs.Goals.{MeetsGoal}
+use Rattle.line_bounds.specs.Serving.{Serves}
 use Rattle.roster_model.specs.Closing.{decided_line, IsDecidedLine, IsMiscrewed}
 
 -- each pairing can have its crew
 abbrev pub HaveCrews : Problem → List Decision → Type 0
 HaveCrews problem node = (p : ℕ) → IsMiscrewed problem node p → ⊥
-
--- the two parts of meeting a goal
-abbrev pub IsFloorMet : Problem → Goal → ℕ → List ℕ → Type 0
-IsFloorMet problem goal member line =
-    ForSome (slice_get goal.floors member) (λ floor. floor ≤ score_of problem member line)
-
-abbrev pub IsBidMet : Problem → Goal → ℕ → List ℕ → Type 0
-IsBidMet problem goal member line =
-    ForSome goal.grant (λ b. b.member ≡ member → is_granted problem member b.bid line ≡ true)
-
--- the line is legal and meets the goal
-pub record Serves (problem : Problem) (goal : Goal) (member : ℕ) (line : List ℕ) : Type 0 where
-  pub legal : IsLegal problem member line
-  pub meets : MeetsGoal problem goal member line
 
 -- the member's line serves, if it is decided
 abbrev pub IsFitting : Problem → Goal → List Decision → ℕ → Type 0

@@ -5,9 +5,10 @@ use Rattle.roster_model.specs.declared.goal.Goal.{Goal}
 use Rattle.roster_model.specs.declared.node.Decision.{Decision}
 use Rattle.roster_model.specs.declared.proof.Lens.{Lens}
 use Rattle.roster_model.specs.Rosters.{line_at}
-use Rattle.roster_model.specs.Lenses.{AreLenses, HasNoLine, IsLens, IsLensLine, IsMostWeight, IsStandardLens}
+use Rattle.roster_model.specs.Lenses.{AreLenses, HasNoLine, IsLensLine, IsMostWeight, IsStandardLens}
 use Rattle.roster_model.specs.Effort.{AreStandardLenses}
 use Rattle.roster_model.specs.Weights.{weight_of}
+use Rattle.line_bounds.specs.Bounds.{IsShapedBound}
 
 -- a line that passes the lens, and none that does weighs more
 pub record IsHeaviestLine (problem : Problem) (member : ℕ) (goal : Goal) (node : List Decision) (lens : Lens) (weights : List ℤ) (line : List ℕ) : Type 0 where
@@ -32,7 +33,8 @@ pub record IsWithoutLine (problem : Problem) (goal : Goal) (node : List Decision
   pub in_range : member < length problem.base.members
   pub none : (lens : Lens) → IsStandardLens problem member lens → HasNoLine problem member goal node lens
 
--- the lens has its shape, and the line is a heaviest one
-pub record IsShapedHeaviest (problem : Problem) (member : ℕ) (goal : Goal) (node : List Decision) (lens : Lens) (weights : List ℤ) (line : List ℕ) : Type 0 where
-  pub shape : IsLens problem member lens
-  pub heaviest : IsHeaviestLine problem member goal node lens weights line
+-- such bounds of the first members
+abbrev pub AreShapedBounds : Problem → Goal → List Decision → List ℤ → List Lens → List ℤ → ℕ → Type 0
+AreShapedBounds problem goal node weights lenses bounds count =
+    (m : ℕ) (lens : Lens) (bound : ℤ) → m < count → slice_get lenses m ≡ Some lens → slice_get bounds m ≡ Some bound
+    → IsShapedBound problem m goal node lens weights bound

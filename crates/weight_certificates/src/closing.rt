@@ -8,6 +8,7 @@ ghost use Rattle.branch_log.specs.Honest.{IsHonest, IsWhole};
 ghost use Rattle.weight_certificates.specs.Leaves.{AreFitting, HaveCrews};
 ghost use Rattle.weight_certificates.specs.Pricing.{AreStandard};
 
+use crate::bounds::{is_outweighed, narrowed};
 use crate::columns::Columns;
 use crate::crews::miscrewed;
 use crate::fixed::misfit;
@@ -16,7 +17,7 @@ use crate::pairs::branch_pair;
 use crate::rosters::{is_whole, parts_of};
 use crate::rounds::{Evidence, price_rounds};
 use crate::shares::Shares;
-use crate::trials::{is_lineless, is_outweighed, narrowed};
+use crate::trials::is_lineless;
 use branch_log::{Proposal, Verdict};
 use closer_guide::{Bounded, FloorGuess, Guess, Guide, Part};
 use duty_calendar::{List, Memory};
@@ -103,21 +104,22 @@ fn weights_leaf(
     ensures accepted { IfOk result (λ answer. IfSome answer
         (IsAccepted problem.now goal.now node.now)) }
 {
-    let lenses = bounded.lenses;
+    let (weights, lenses) = (bounded.weights, bounded.lenses);
+    let (bounds, lines) = (&bounded.bounds, &bounded.lines);
     let is_closed = is_outweighed(
         alloc,
         problem,
         goal,
         node,
         lenses.as_slice(),
-        &bounded.weights,
-        &bounded.bounds,
+        &weights,
+        bounds,
+        lines,
     )?;
     if !is_closed {
         return Ok(None);
     }
-    let weights = narrowed(alloc, &bounded.weights)?;
-    Ok(Some(Item::Weights(weights, lenses)))
+    Ok(Some(Item::Weights(narrowed(alloc, &weights)?, lenses)))
 }
 
 /// The leaf of a member without a line, where it closes the node.

@@ -23,7 +23,7 @@ fn has(decisions: &[Decision], member: u32, pairing: u32, flies: bool) -> bool
 }
 
 /// Whether the node has the decision that the member flies the pairing, or that the member does not.
-#[tactic(auto, using(crate::proofs::Turned::is_decided_as_reverse))]
+#[tactic(auto, using(line_bounds::proofs::Turned::is_decided_as_reverse))]
 pub(crate) fn is_decided_as(node: &Node, member: u32, pairing: u32, flies: bool) -> bool
     ensures value { result ≡ is_decided_as node.now member pairing flies }
 {

@@ -2,6 +2,7 @@
 #![tactic(auto)]
 
 mod best;
+mod bounds;
 mod closer;
 mod closing;
 mod columns;

@@ -4,9 +4,9 @@ ghost use Rattle.roster_model.specs.Goals.{IsGoal, RosterMeets};
 ghost use Rattle.roster_model.specs.Rounds.{IsRound};
 ghost use Rattle.branch_log.specs.Honest.{IsWhole};
 
-use crate::fixed::meets_goal;
 use closer_guide::Part;
 use duty_calendar::{Copied, Memory};
+use line_bounds::meets_goal;
 use line_legality::{RosterFault, complete};
 use roster_model::{Goal, Node, Problem, Roster};
 use std::alloc::Global;

@@ -1,6 +1,7 @@
 //! Rows of integers, one for each pairing.
 ghost use Rattle.std.specs.Prelude.{◌≡◌, ℕ, ◌<◌, ◌≤◌, ◌^◌, length, pos, ◌+ℤ◌, ◌-ℤ◌, All, cond};
 ghost use Rattle.roster_model.specs.Scores.{is_flown};
+ghost use Rattle.roster_model.specs.Rosters.{need_of};
 ghost use Rattle.roster_model.specs.Rounds.{miss_of};
 ghost use Rattle.roster_model.specs.Weights.{weight_at};
 ghost use Rattle.weight_certificates.specs.Rows.{AreWithin, product_of};
@@ -33,6 +34,18 @@ pub(crate) fn subtract(from: &mut [i64], row: &[i64])
 {
     for (k, x) in row.iter().enumerate() {
         from[k] -= *x;
+    }
+}
+
+/// Sets a row to how many members each pairing needs.
+pub(crate) fn set_needs(row: &mut [i64], problem: &Problem)
+    requires per_pairing { length row.old ≡ length problem.now.base.pairings }
+    ensures needs { (p : ℕ) → p < length problem.now.base.pairings
+        → weight_at row.new p ≡ pos (need_of problem.now p) }
+    ensures within { AreWithin 200 row.new }
+{
+    for p in 0..problem.base.pairings.len() as u32 {
+        row[p as usize] = i64::from(need_of(problem, p));
     }
 }
 

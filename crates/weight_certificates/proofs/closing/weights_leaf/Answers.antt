@@ -9,7 +9,7 @@ pub returns : goal.returns
 unfolding IsAccepted
 returns c = record {
   accepted =
-      subst (λ (ys : List ℤ). IsOutweighed c.args.problem.now c.args.goal.now c.args.node.now ys c.args.bounded.lenses) (c.deref.ensures.value ∙ sym (c.in_ok-weights.ensures.same ∙ c.deref-3.ensures.value))
+      subst (λ (ys : List ℤ). IsOutweighed c.args.problem.now c.args.goal.now c.args.node.now ys c.args.bounded.lenses) (c.deref.ensures.value ∙ sym (c.in_ok-narrowed.ensures.same ∙ c.deref-4.ensures.value))
       (subst (λ (ls : List Lens). IsOutweighed c.args.problem.now c.args.goal.now c.args.node.now c.deref.result.now ls) c.as_slice.ensures
       (c.in_ok-is_closed.ensures.outweighed c.if-not-is_closed.false));
 }

@@ -1,4 +1,0 @@
-use Rattle.weight_certificates.proofs.trials.is_lineless.Given as goal
-
-abbrev pub ghosts-over_from : goal.ghosts-over_from
-ghosts-over_from a = record { name = a.blank.name; parts = a.blank.parts }
