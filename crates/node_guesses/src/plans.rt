@@ -104,14 +104,26 @@ impl Tree {
     }
 }
 
-/// Takes the next guess, if it is for a node of so many decisions; else all are dropped.
-pub(crate) fn next_planned(plan: &mut Vec<Planned>, depth: usize) -> Option<Guess> {
-    let next = plan.pop()?;
-    if next.depth != depth {
-        plan.truncate(0);
-        return None;
+/// Drops what is planned for nodes of more decisions, which are below one that was closed without it.
+fn drop_deeper(plan: &mut Vec<Planned>, depth: usize) {
+    for _ in 0..plan.len() {
+        match plan.last() {
+            Some(next) if next.depth > depth => {}
+            _ => return,
+        }
+        plan.pop();
     }
-    Some(next.guess)
+}
+
+/// Takes the guess that is planned for the next node, of so many decisions; none where that is below a node whose guess did not
+/// serve.
+pub(crate) fn next_planned(plan: &mut Vec<Planned>, depth: usize) -> Option<Guess> {
+    drop_deeper(plan, depth);
+    match plan.last() {
+        Some(next) if next.depth == depth => {}
+        _ => return None,
+    }
+    Some(plan.pop()?.guess)
 }
 
 /// Whether the guess needs a lens that looks at whole lines.
