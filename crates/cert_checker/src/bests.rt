@@ -105,6 +105,28 @@ fn tried(
     }
 }
 
+/// A line of the member that passes the lens, of the greatest weight, if a short search finds it.
+pub(crate) fn soon_heaviest(
+    alloc: Global,
+    problem: &Problem,
+    member: u32,
+    goal: &Goal,
+    node: &Node,
+    lens: &Lens,
+    weights: &[i64],
+) -> Option<PricedLine>
+    requires asked { IsQuestion problem.now member goal.now node.now lens.now weights.now }
+    ensures best { IfSome result (λ b.
+        IsBestWeight problem.now member goal.now node.now lens.now weights.now b.weight) }
+{
+    let short = Trial {
+        over: LEAST,
+        limit: SHORT,
+        in_turns: false,
+    };
+    tried(alloc, problem, member, goal, node, lens, weights, short)
+}
+
 /// A line of the member that passes the lens, of the greatest weight, or nothing where no line
 /// passes. Its steps are counted from the blank on.
 fn best_line<L: Ledger>(

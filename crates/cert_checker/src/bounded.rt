@@ -9,6 +9,7 @@ ghost use Rattle.cert_checker.specs.Given.{AreQuestions, IsQuestion};
 ghost use Rattle.cert_checker.specs.Bests.{BoundsWeigh};
 ghost use Rattle.cert_checker.specs.Recalls.{IsRight};
 
+use crate::bests::soon_heaviest;
 use crate::guesses::{guessed_mosts, spare_of};
 use crate::noted::{Noted, note};
 use crate::recall::{Recall, keep_bound, recalled_bound};
@@ -60,7 +61,7 @@ fn is_any_serving(
     ensures serving { IfOk result (λ yes. IsTrue yes
         → HasServing problem.now goal.now node.now member) }
 {
-    for it in noted {
+    for it in noted.iter().rev() {
         if it.member == member && is_serving(alloc, problem, goal, node, member, &it.line)? {
             return Ok(true);
         }
@@ -91,7 +92,7 @@ fn is_passed(
 }
 
 /// A bound on what the member's lines weigh that pass the lens, within the room, if one is found. Lines that are found are noted.
-fn found_bound(
+fn raised_bound(
     alloc: Global,
     problem: &Problem,
     noted: &mut List<Noted>,
@@ -128,6 +129,36 @@ fn found_bound(
         }
     }
     Ok(None)
+}
+
+/// A bound on what the member's lines weigh that pass the lens, if one is found: what the heaviest weighs, where that is soon found, or
+/// one within the room.
+fn found_bound(
+    alloc: Global,
+    problem: &Problem,
+    noted: &mut List<Noted>,
+    member: u32,
+    goal: &Goal,
+    node: &Node,
+    lens: &Lens,
+    weights: &[i64],
+    room: Room,
+) -> Result<Option<i64>, Memory>
+    requires asked { IsQuestion problem.now member goal.now node.now lens.now weights.now }
+    requires shape { IsLens problem.now member lens.now }
+    ensures bound { IfOk result (λ answer. IfSome answer
+        (IsWeightBound problem.now member goal.now node.now lens.now weights.now)) }
+{
+    match soon_heaviest(alloc, problem, member, goal, node, lens, weights) {
+        Some(priced) => {
+            let weight = priced.weight;
+            note(noted, member, priced.line)?;
+            Ok(Some(weight))
+        }
+        None => raised_bound(
+            alloc, problem, noted, member, goal, node, lens, weights, room,
+        ),
+    }
 }
 
 /// A bound on what the member's lines weigh that pass the lens, within the room: one that was found before, or one that is found now and
