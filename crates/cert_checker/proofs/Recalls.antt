@@ -1,6 +1,6 @@
 -- Answers that stay right: a line passes a lens at each goal that asks the same of its member.
-use Rattle.std.proofs.Common.{◌≡◌, ℕ, List, [], ◌++◌, ◌∷◌, ◌≤◌, Option, Some, Result, Ok, Err, length, get_or, refl, sym, ap, subst, ◌∙◌}
-use Rattle.std.specs.Prelude.{ℤ, All, Contains, IfSome, OnErr, OnOk, slice_get, slice_set}
+use Rattle.std.proofs.Common.{◌≡◌, ℕ, List, [], ◌++◌, ◌∷◌, ◌≤◌, Option, None, Some, Result, Ok, Err, length, get_or, refl, sym, ap, subst, ◌∙◌}
+use Rattle.std.specs.Prelude.{ℤ, All, Contains, IfNone, IfSome, OnErr, OnOk, slice_get, slice_set}
 use Rattle.std.specs.Option.{ForSome}
 use Rattle.std.proofs.lemmas.Option.{IfSome_then, same_Some, slice_get_read, slice_get_within}
 use Rattle.std.proofs.lemmas.List.Elements.{All-contains, All-nil, All-push, All-same, All-set}
@@ -8,9 +8,10 @@ use Rattle.roster_model.specs.declared.problem.Problem.{Problem}
 use Rattle.roster_model.specs.declared.goal.Goal.{Goal}
 use Rattle.roster_model.specs.declared.node.Decision.{Decision}
 use Rattle.roster_model.specs.declared.proof.Lens.{Lens}
-use Rattle.roster_model.specs.Lenses.{IsLensLine, IsWeightBound, lens_score}
+use Rattle.roster_model.specs.Lenses.{HasNoLine, IsBestWeight, IsLensLine, lens_score}
 use Rattle.cert_checker.specs.declared.recall.Answer.{Answer}
 use Rattle.cert_checker.specs.declared.recall.Sheet.{Sheet}
+use Rattle.cert_checker.specs.Bests.{IsWithin}
 use Rattle.cert_checker.proofs.Shapes.{all_at}
 use Rattle.cert_checker.specs.Recalls.{AsksAlone, IsRightAnswer, IsRightSheet, IsSheetOf, answer_of}
 
@@ -38,31 +39,55 @@ line_moved problem member least lens line a b here there is = record {
   windows = is.windows;
 }
 
--- so a bound there is one here
-bound_moved : (problem : Problem) (member : ℕ) (least : Option ℕ) (lens : Lens) (weights : List ℤ) (bound : ℤ) (a b : Goal)
-    → AsksAlone a member least → AsksAlone b member least → IsWeightBound problem member a [] lens weights bound → IsWeightBound problem member b [] lens weights bound
-bound_moved problem member least lens weights bound a b here there is = record {
-  some = (is.some.0, line_moved problem member least lens is.some.0 a b here there is.some.1);
+-- so what is true of all lines there is true here
+best_moved : (problem : Problem) (member : ℕ) (least : Option ℕ) (lens : Lens) (weights : List ℤ) (best : ℤ) (a b : Goal)
+    → AsksAlone a member least → AsksAlone b member least → IsBestWeight problem member a [] lens weights best → IsBestWeight problem member b [] lens weights best
+best_moved problem member least lens weights best a b here there is = record {
+  attained = (is.attained.0, line_moved problem member least lens is.attained.0 a b here there is.attained.1, is.attained.2);
   most = λ line passes. is.most line (line_moved problem member least lens line b a there here passes);
 }
 
+none_moved : (problem : Problem) (member : ℕ) (least : Option ℕ) (lens : Lens) (best : Option ℤ) (a b : Goal)
+    → AsksAlone a member least → AsksAlone b member least → IfNone best (HasNoLine problem member a [] lens) → IfNone best (HasNoLine problem member b [] lens)
+none_moved problem member least lens None a b here there is = λ line passes. is line (line_moved problem member least lens line b a there here passes)
+none_moved problem member least lens (Some best) a b here there is = is
+
 -- what is found at a goal is right at each that asks the same
-pub answer_right : (problem : Problem) (weights : List ℤ) (member : ℕ) (least least' : Option ℕ) (lens lens' : Lens) (bound : ℤ) (goal : Goal) (node : List Decision)
-    → node ≡ [] → least' ≡ least → lens' ≡ lens → AsksAlone goal member least → IsWeightBound problem member goal node lens weights bound
-    → IsRightAnswer problem weights (answer_of member least' lens' bound)
-answer_right problem weights member least least' lens lens' bound goal node empty same copied asks is =
+pub answer_right : (problem : Problem) (weights : List ℤ) (member : ℕ) (least least' : Option ℕ) (lens lens' : Lens) (best : Option ℤ) (goal : Goal) (node : List Decision)
+    → node ≡ [] → least' ≡ least → lens' ≡ lens → AsksAlone goal member least → IfSome best (IsBestWeight problem member goal node lens weights) → IfSome best (IsWithin 1288490188200)
+    → IfNone best (HasNoLine problem member goal node lens) → IsRightAnswer problem weights (answer_of member least' lens' best)
+answer_right problem weights member least least' lens lens' best goal node empty same copied asks is within none =
     let here = subst (λ (o : Option ℕ). AsksAlone goal member o) (sym same) asks in
-    let bound_here = subst (λ (ds : List Decision). IsWeightBound problem member goal ds lens weights bound) empty is in
-    subst (λ (l : Lens). IsRightAnswer problem weights (answer_of member least' l bound)) (sym copied)
-    (record { at = λ other asked. bound_moved problem member least' lens weights bound goal other here asked bound_here })
+    let best_here = subst (λ (ds : List Decision). IfSome best (IsBestWeight problem member goal ds lens weights)) empty is in
+    let none_here = subst (λ (ds : List Decision). IfNone best (HasNoLine problem member goal ds lens)) empty none in
+    subst (λ (l : Lens). IsRightAnswer problem weights (answer_of member least' l best)) (sym copied)
+    (record {
+      at = λ other asked. record {
+        best = IfSome_then best best_here (λ x. best_moved problem member least' lens weights x goal other here asked);
+        within = within;
+        none = none_moved problem member least' lens best goal other here asked none_here;
+      };
+    })
 
 -- and what is right there serves here
-pub right_bound : (problem : Problem) (weights : List ℤ) (member : ℕ) (least least' : Option ℕ) (lens : Lens) (bound : ℤ) (goal : Goal) (node : List Decision)
-    → node ≡ [] → least' ≡ least → AsksAlone goal member least → IsRightAnswer problem weights (answer_of member least' lens bound)
-    → IsWeightBound problem member goal node lens weights bound
-right_bound problem weights member least least' lens bound goal node empty same asks right =
-    subst (λ (ds : List Decision). IsWeightBound problem member goal ds lens weights bound) (sym empty)
-    (right.at goal (subst (λ (o : Option ℕ). AsksAlone goal member o) (sym same) asks))
+pub right_best : (problem : Problem) (weights : List ℤ) (member : ℕ) (least least' : Option ℕ) (lens : Lens) (best : Option ℤ) (goal : Goal) (node : List Decision)
+    → node ≡ [] → least' ≡ least → AsksAlone goal member least → IsRightAnswer problem weights (answer_of member least' lens best)
+    → IfSome best (IsBestWeight problem member goal node lens weights)
+right_best problem weights member least least' lens best goal node empty same asks right =
+    subst (λ (ds : List Decision). IfSome best (IsBestWeight problem member goal ds lens weights)) (sym empty)
+    (right.at goal (subst (λ (o : Option ℕ). AsksAlone goal member o) (sym same) asks)).best
+
+pub right_within : (problem : Problem) (weights : List ℤ) (member : ℕ) (least least' : Option ℕ) (lens : Lens) (best : Option ℤ) (goal : Goal)
+    → least' ≡ least → AsksAlone goal member least → IsRightAnswer problem weights (answer_of member least' lens best) → IfSome best (IsWithin 1288490188200)
+right_within problem weights member least least' lens best goal same asks right =
+    (right.at goal (subst (λ (o : Option ℕ). AsksAlone goal member o) (sym same) asks)).within
+
+pub right_none : (problem : Problem) (weights : List ℤ) (member : ℕ) (least least' : Option ℕ) (lens : Lens) (best : Option ℤ) (goal : Goal) (node : List Decision)
+    → node ≡ [] → least' ≡ least → AsksAlone goal member least → IsRightAnswer problem weights (answer_of member least' lens best)
+    → IfNone best (HasNoLine problem member goal node lens)
+right_none problem weights member least least' lens best goal node empty same asks right =
+    subst (λ (ds : List Decision). IfNone best (HasNoLine problem member goal ds lens)) (sym empty)
+    (right.at goal (subst (λ (o : Option ℕ). AsksAlone goal member o) (sym same) asks)).none
 
 -- one more, where it was appended
 pub pushed : {X : Type 0} (P : X → Type 0) (xs new : List X) (x : X) (r : Result (Unit {0}) X) → OnOk r (new ≡ xs ++ x ∷ []) → OnErr r (new ≡ xs) → All P xs → P x → All P new
@@ -86,13 +111,13 @@ sheet_at problem sheets weights place sheet all is here =
     (sym (ap (λ (s : Sheet). s.weights) same) ∙ is.same_weights, all_at (IsRightSheet problem) sheets place sheet all here)
 
 -- what is found on the sheet is right
-pub found_right : (problem : Problem) (sheets : List Sheet) (weights : List ℤ) (place : ℕ) (sheet : Sheet) (answers : List Answer) (member : ℕ) (least : Option ℕ) (lens : Lens) (bound : Option ℤ)
+pub found_right : (problem : Problem) (sheets : List Sheet) (weights : List ℤ) (place : ℕ) (sheet : Sheet) (answers : List Answer) (member : ℕ) (least : Option ℕ) (lens : Lens) (best : Option (Option ℤ))
     → IsSheetOf sheets weights place → sheet ≡ get_or sheets place sheet → answers ≡ sheet.answers
-    → IfSome bound (λ b. Contains answers (answer_of member least lens b)) → All (IsRightSheet problem) sheets
-    → IfSome bound (λ b. IsRightAnswer problem weights (answer_of member least lens b))
-found_right problem sheets weights place sheet answers member least lens bound is here same kept all =
+    → IfSome best (λ b. Contains answers (answer_of member least lens b)) → All (IsRightSheet problem) sheets
+    → IfSome best (λ b. IsRightAnswer problem weights (answer_of member least lens b))
+found_right problem sheets weights place sheet answers member least lens best is here same kept all =
     let at = sheet_at problem sheets weights place sheet all is (slice_get_read sheets (length sheets) place sheet refl (slice_get_within sheets place is.sheet is.here) here) in
-    IfSome_then bound kept (λ b has.
+    IfSome_then best kept (λ b has.
     subst (λ (ys : List ℤ). IsRightAnswer problem ys (answer_of member least lens b)) at.0
     (All-contains (IsRightAnswer problem sheet.weights) sheet.answers (answer_of member least lens b) at.1.each
     (subst (λ (xs : List Answer). Contains xs (answer_of member least lens b)) same has)))

@@ -1,5 +1,5 @@
-//! Items whose weights show, by bounds on what the members' lines weigh, that no lines give the crews that are needed. Bounds that need
-//! not be attained are sooner found than the greatest weights.
+//! Items whose weights show, by bounds on what the members' lines weigh, that no lines give the crews that are needed. At nodes with
+//! decisions, of which no answers are kept, bounds that need not be attained are sooner found than the greatest weights.
 ghost use Rattle.std.specs.Prelude.{◌≡◌, ◌<◌, IfOk, IfSome, IsTrue, length};
 ghost use Rattle.roster_model.specs.Goals.{IsGoal};
 ghost use Rattle.roster_model.specs.Lenses.{HasSomeLine, IsLens, IsOutweighed, IsWeightBound};
@@ -11,8 +11,8 @@ ghost use Rattle.cert_checker.specs.Recalls.{IsRight};
 
 use crate::bests::soon_heaviest;
 use crate::guesses::{guessed_mosts, spare_of};
-use crate::noted::{Noted, note};
-use crate::recall::{Recall, keep_bound, recalled_bound};
+use crate::noted::Noted;
+use crate::recall::{Recall, note};
 use duty_calendar::{List, Memory};
 use line_bounds::{has_line, is_serving, line_over};
 use line_generator::Over;
@@ -161,48 +161,11 @@ fn found_bound(
     }
 }
 
-/// A bound on what the member's lines weigh that pass the lens, within the room: one that was found before, or one that is found now and
-/// kept.
-fn bound_of(
-    alloc: Global,
-    problem: &Problem,
-    recall: &mut Recall,
-    member: u32,
-    goal: &Goal,
-    node: &Node,
-    lens: &Lens,
-    weights: &[i64],
-    room: Room,
-) -> Result<Option<i64>, Memory>
-    requires asked { IsQuestion problem.now member goal.now node.now lens.now weights.now }
-    requires shape { IsLens problem.now member lens.now }
-    requires right { IsRight problem.now recall.old }
-    ensures bound { IfOk result (λ answer. IfSome answer
-        (IsWeightBound problem.now member goal.now node.now lens.now weights.now)) }
-    ensures right { IsRight problem.now recall.new }
-{
-    let most = room.above(room.most).unwrap_or(room.most);
-    let known = recalled_bound(recall, member, goal, node, lens, weights, most);
-    if known.is_some() {
-        return Ok(known);
-    }
-    let noted = &mut recall.noted;
-    let found = found_bound(
-        alloc, problem, noted, member, goal, node, lens, weights, room,
-    )?;
-    if let Some(bound) = found {
-        keep_bound(
-            alloc, problem, recall, member, goal, node, lens, weights, bound,
-        )?;
-    }
-    Ok(found)
-}
-
 /// The sum of bounds on what the members' lines weigh, each by its lens, if they are found.
 fn bounds_weigh(
     alloc: Global,
     problem: &Problem,
-    recall: &mut Recall,
+    noted: &mut List<Noted>,
     goal: &Goal,
     node: &Node,
     weights: &[i64],
@@ -211,10 +174,8 @@ fn bounds_weigh(
     spare: i64,
 ) -> Result<Option<i64>, Memory>
     requires asked { AreQuestions problem.now goal.now node.now weights.now lenses.now }
-    requires right { IsRight problem.now recall.old }
     ensures together { IfOk result (λ answer. IfSome answer
         (BoundsWeigh problem.now goal.now node.now weights.now lenses.now)) }
-    ensures right { IsRight problem.now recall.new }
 {
     let mut sum: i64 = 0;
     let mut left = spare;
@@ -225,8 +186,8 @@ fn bounds_weigh(
             open: lenses.len().saturating_sub(member) as i64,
         };
         let member = member as u32;
-        let bound = bound_of(
-            alloc, problem, recall, member, goal, node, lens, weights, room,
+        let bound = found_bound(
+            alloc, problem, noted, member, goal, node, lens, weights, room,
         )?;
         let Some(bound) = bound else {
             return Ok(None);
@@ -240,7 +201,8 @@ fn bounds_weigh(
     Ok(Some(sum))
 }
 
-/// Whether it is found, by bounds, that the members' lines, each by its lens, weigh less than the needs.
+/// Whether it is found, by bounds, that the members' lines, each by its lens, weigh less than the needs; not looked for at the node
+/// without decisions.
 pub(crate) fn is_bounded(
     alloc: Global,
     problem: &Problem,
@@ -258,13 +220,17 @@ pub(crate) fn is_bounded(
         → IsOutweighed problem.now goal.now node.now weights.now lenses.now) }
     ensures right { IsRight problem.now recall.new }
 {
+    if node.is_empty() {
+        return Ok(false);
+    }
     let noted = recall.noted.as_slice();
     let Some(mosts) = guessed_mosts(alloc, problem, noted, goal, node, weights)? else {
         return Ok(false);
     };
     let spare = spare_of(&mosts, needs);
+    let noted = &mut recall.noted;
     let sum = bounds_weigh(
-        alloc, problem, recall, goal, node, weights, lenses, &mosts, spare,
+        alloc, problem, noted, goal, node, weights, lenses, &mosts, spare,
     )?;
     match sum {
         Some(sum) => Ok(sum < needs),

@@ -1,12 +1,18 @@
-//! What a judgement has found of bounds on lines, for questions that are asked again.
-ghost use Rattle.std.specs.Prelude.{◌≡◌, ℤ, List as Sequence, true, slice_get, All, Contains, IfOk, IfSome};
+//! What a judgement has found of heaviest lines, for questions that are asked again.
+ghost use Rattle.std.specs.Prelude.{◌≡◌, ℤ, List as Sequence, true, slice_get, All, Contains, IfErr, IfNone, IfOk, IfSome};
 ghost use Rattle.roster_model.specs.declared.problem.Problem.{Problem as Month};
-ghost use Rattle.roster_model.specs.Lenses.{IsWeightBound};
+ghost use Rattle.roster_model.specs.Lenses.{HasNoLine, IsBestWeight, IsLens};
+ghost use Rattle.cert_checker.specs.Given.{IsQuestion};
+ghost use Rattle.cert_checker.specs.Faults.{IsStepFault};
+ghost use Rattle.cert_checker.specs.Bests.{IsShapeFault, IsWithin};
 ghost use Rattle.cert_checker.specs.Recalls.{AsksAlone, IsAnswerTo, IsRight, IsRightAnswer, IsRightSheet, IsSheetOf, answer_of};
 
+use crate::bests::heaviest_line;
+use crate::guesses::guessed_bound;
 use crate::noted::Noted;
+use crate::refusal::StepFault;
 use duty_calendar::{Copied, List, Memory};
-use roster_model::{Goal, Lens, Node, Problem};
+use roster_model::{Goal, Lens, Line, Node, Problem};
 use std::alloc::Global;
 
 /// So many sheets are kept at most.
@@ -15,13 +21,14 @@ const MOST_SHEETS: usize = 256;
 /// So many answers are kept on a sheet at most.
 const MOST_ANSWERS: usize = 4096;
 
-/// A bound on what a member's lines weigh by a lens, under this floor of the member.
+/// What a member's heaviest line weighs by a lens, under this floor of the member; nothing where no
+/// line passes.
 #[derive(Drop)]
 pub(crate) struct Answer {
     member: u32,
     floor: Option<u32>,
     lens: Lens,
-    bound: i64,
+    best: Option<i64>,
 }
 
 /// Answers under the same weights.
@@ -31,7 +38,10 @@ pub(crate) struct Sheet {
     answers: List<Answer>,
 }
 
-/// Answers that were found before in one judgement, and lines that were found for
+/// So many lines are noted at most.
+const MOST_NOTED: usize = 4096;
+
+/// Answers that were found before in one judgement, and the heaviest lines that were found for
 /// them, of which nothing is said.
 #[derive(Drop)]
 pub(crate) struct Recall {
@@ -89,14 +99,14 @@ fn is_answer_to(answer: &Answer, member: u32, floor: Option<u32>, lens: &Lens) -
     answer.member == member && answer.floor == floor && is_same(&answer.lens, lens)
 }
 
-/// An answer for the member, under this floor, by this lens, that is no more than this, if one is among these.
-fn found(answers: &[Answer], member: u32, floor: Option<u32>, lens: &Lens, most: i64) -> Option<i64>
-    ensures kept { IfSome result (λ bound.
-        Contains answers.now (answer_of member floor lens.now bound)) }
+/// The answer for the member, under this floor, by this lens, if it is among these.
+fn found(answers: &[Answer], member: u32, floor: Option<u32>, lens: &Lens) -> Option<Option<i64>>
+    ensures kept { IfSome result (λ best.
+        Contains answers.now (answer_of member floor lens.now best)) }
 {
     for answer in answers {
-        if answer.bound <= most && is_answer_to(answer, member, floor, lens) {
-            return Some(answer.bound);
+        if is_answer_to(answer, member, floor, lens) {
+            return Some(answer.best);
         }
     }
     None
@@ -114,22 +124,21 @@ fn place_of(sheets: &[Sheet], weights: &[i64]) -> Option<usize>
     None
 }
 
-/// An answer that was kept and is no more than this, if there is one.
+/// The answer that was kept, if there is one.
 fn recalled(
     sheets: &[Sheet],
     weights: &[i64],
     member: u32,
     floor: Option<u32>,
     lens: &Lens,
-    most: i64,
-) -> Option<i64>
+) -> Option<Option<i64>>
     ensures right { (problem : Month) → All (IsRightSheet problem) sheets.now
-        → IfSome result (λ bound.
-        IsRightAnswer problem weights.now (answer_of member floor lens.now bound)) }
+        → IfSome result (λ best.
+        IsRightAnswer problem weights.now (answer_of member floor lens.now best)) }
 {
     match place_of(sheets, weights) {
         None => None,
-        Some(place) => found(sheets[place].answers.as_slice(), member, floor, lens, most),
+        Some(place) => found(sheets[place].answers.as_slice(), member, floor, lens),
     }
 }
 
@@ -194,29 +203,57 @@ fn keep(
     }
 }
 
-/// A bound on what the member's lines weigh that pass the lens, which was found before and is no more than this, if there is one.
-/// Such are kept for the node without decisions alone, and where the goal's bid is not one of the member's.
-pub(crate) fn recalled_bound(
-    recall: &Recall,
+/// Whether the line is noted of the member.
+fn is_noted(noted: &[Noted], member: u32, line: &Line) -> bool {
+    noted.iter().any(|it| it.member == member && it.line.pairings() == line.pairings())
+}
+
+/// Notes a line of the member where there is room.
+pub(crate) fn note(noted: &mut List<Noted>, member: u32, line: Line) -> Result<(), Memory> {
+    if noted.len() >= MOST_NOTED || is_noted(noted.as_slice(), member, &line) {
+        return Ok(());
+    }
+    match noted.push(Noted { member, line }) {
+        Ok(()) => Ok(()),
+        Err(_) => Err(Memory::NoMemory),
+    }
+}
+
+/// The greatest weight of the member's lines that pass the lens, or nothing where no line passes. The
+/// line that weighs so much is noted.
+fn noted_weight(
+    alloc: Global,
+    problem: &Problem,
+    noted: &mut List<Noted>,
     member: u32,
     goal: &Goal,
     node: &Node,
     lens: &Lens,
     weights: &[i64],
-    most: i64,
-) -> Option<i64>
-    ensures bound { (problem : Month) → IsRight problem recall.now → IfSome result
-        (IsWeightBound problem member goal.now node.now lens.now weights.now) }
+) -> Result<Option<i64>, StepFault>
+    requires asked { IsQuestion problem.now member goal.now node.now lens.now weights.now }
+    requires shape { IsLens problem.now member lens.now }
+    ensures best { IfOk result (λ answer. IfSome answer
+        (IsBestWeight problem.now member goal.now node.now lens.now weights.now)) }
+    ensures within { IfOk result (λ answer. IfSome answer (IsWithin 1288490188200)) }
+    ensures none { IfOk result (λ answer. IfNone answer
+        (HasNoLine problem.now member goal.now node.now lens.now)) }
+    ensures fault { IfErr result (IsStepFault (IsShapeFault problem.now member lens.now)) }
 {
-    if !node.is_empty() || !asks_alone(goal, member) {
-        return None;
+    let guess = guessed_bound(problem, noted.as_slice(), member, goal, node, weights);
+    match heaviest_line(alloc, problem, member, goal, node, lens, weights, guess)? {
+        Some(priced) => {
+            note(noted, member, priced.line)?;
+            Ok(Some(priced.weight))
+        }
+        None => Ok(None),
     }
-    let floor = floor_of(goal, member);
-    recalled(recall.sheets.as_slice(), weights, member, floor, lens, most)
 }
 
-/// Keeps a bound on what the member's lines weigh that pass the lens.
-pub(crate) fn keep_bound(
+/// The greatest weight of the member's lines that pass the lens, or nothing where no line passes:
+/// what was found before, where this was asked before, and else what is found now. Answers are kept
+/// for the node without decisions alone, and where the goal's bid is not one of the member's.
+pub(crate) fn recalled_weight(
     alloc: Global,
     problem: &Problem,
     recall: &mut Recall,
@@ -225,21 +262,50 @@ pub(crate) fn keep_bound(
     node: &Node,
     lens: &Lens,
     weights: &[i64],
-    bound: i64,
-) -> Result<(), Memory>
-    requires bound { IsWeightBound problem.now member goal.now node.now lens.now weights.now bound }
+) -> Result<Option<i64>, StepFault>
+    requires asked { IsQuestion problem.now member goal.now node.now lens.now weights.now }
+    requires shape { IsLens problem.now member lens.now }
     requires right { IsRight problem.now recall.old }
+    ensures best { IfOk result (λ answer. IfSome answer
+        (IsBestWeight problem.now member goal.now node.now lens.now weights.now)) }
+    ensures within { IfOk result (λ answer. IfSome answer (IsWithin 1288490188200)) }
+    ensures none { IfOk result (λ answer. IfNone answer
+        (HasNoLine problem.now member goal.now node.now lens.now)) }
+    ensures fault { IfErr result (IsStepFault (IsShapeFault problem.now member lens.now)) }
     ensures right { IsRight problem.now recall.new }
 {
-    let _ = problem;
     if !node.is_empty() || !asks_alone(goal, member) {
-        return Ok(());
+        return noted_weight(
+            alloc,
+            problem,
+            &mut recall.noted,
+            member,
+            goal,
+            node,
+            lens,
+            weights,
+        );
     }
+    let floor = floor_of(goal, member);
+    if let Some(best) = recalled(recall.sheets.as_slice(), weights, member, floor, lens) {
+        return Ok(best);
+    }
+    let best = noted_weight(
+        alloc,
+        problem,
+        &mut recall.noted,
+        member,
+        goal,
+        node,
+        lens,
+        weights,
+    )?;
     let answer = Answer {
         member,
-        floor: floor_of(goal, member),
+        floor,
         lens: lens.copy(alloc)?,
-        bound,
+        best,
     };
-    keep(alloc, &mut recall.sheets, weights, answer)
+    keep(alloc, &mut recall.sheets, weights, answer)?;
+    Ok(best)
 }

@@ -8,8 +8,7 @@ ghost use Rattle.cert_checker.specs.Bests.{IsLinelessFault, IsNothingFault, IsWi
 ghost use Rattle.cert_checker.specs.Recalls.{IsRight};
 
 use crate::bounded::is_bounded;
-use crate::noted::noted_weight;
-use crate::recall::Recall;
+use crate::recall::{Recall, recalled_weight};
 use crate::refusal::{ItemFault, StepFault};
 use duty_calendar::Memory;
 use line_lens::{LensFault, check_lens};
@@ -92,8 +91,7 @@ fn line_weight(
         (IsNothingFault problem.now goal.now node.now member lens.now)) }
     ensures right { IsRight problem.now recall.new }
 {
-    let noted = &mut recall.noted;
-    match noted_weight(alloc, problem, noted, member, goal, node, lens, weights)? {
+    match recalled_weight(alloc, problem, recall, member, goal, node, lens, weights)? {
         Some(weight) => Ok(weight),
         None => Err(StepFault::Of(ItemFault::Nothing(member))),
     }

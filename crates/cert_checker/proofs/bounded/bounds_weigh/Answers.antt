@@ -18,9 +18,5 @@ loop-member-preserved c =
     let new =
     to_z-of_z w64 c.in-Some-checked_add.more (subst (FitsSigned w64) (sym added.1) added.0) ∙ added.1
     ∙ ap (λ (z : ℤ). sum +ℤ z) (to_z-of_z w64 c.in-Some.bound fits) in
-    record {
-      together =
-          bound_more c.args.problem.now c.args.goal.now c.args.node.now c.args.weights.now list k sum _ c.in-Some.bound c.index-lenses-member.result
-          c.loop-member.invariant.together here is new;
-      right = c.in_ok-bound.ensures.right;
-    }
+    bound_more c.args.problem.now c.args.goal.now c.args.node.now c.args.weights.now list k sum _ c.in-Some.bound c.index-lenses-member.result
+    c.loop-member.invariant here is new

@@ -1,9 +1,5 @@
 use Rattle.cert_checker.specs.Bests.{BoundTogether}
-use Rattle.cert_checker.specs.Recalls.{IsRight}
 use Rattle.cert_checker.proofs.bounded.bounds_weigh.Given as goal
 
 abbrev pub invariant-loop-member : goal.invariant-loop-member
-invariant-loop-member l = record {
-  together : BoundTogether l.problem l.goal l.node l.weights l.lenses l.member l.sum;
-  right : IsRight l.problem l.recall;
-}
+invariant-loop-member l = BoundTogether l.problem l.goal l.node l.weights l.lenses l.member l.sum
