@@ -33,7 +33,7 @@ pub record IsWithoutLine (problem : Problem) (goal : Goal) (node : List Decision
   pub in_range : member < length problem.base.members
   pub none : (lens : Lens) → IsStandardLens problem member lens → HasNoLine problem member goal node lens
 
--- such bounds of the first members
+-- bounds on what the lines of the first members weigh, each by a lens of its shape
 abbrev pub AreShapedBounds : Problem → Goal → List Decision → List ℤ → List Lens → List ℤ → ℕ → Type 0
 AreShapedBounds problem goal node weights lenses bounds count =
     (m : ℕ) (lens : Lens) (bound : ℤ) → m < count → slice_get lenses m ≡ Some lens → slice_get bounds m ≡ Some bound
