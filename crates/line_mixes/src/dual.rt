@@ -153,6 +153,9 @@ impl Master {
             let sign = if amount > 0.0 { 1.0 } else { -1.0 };
             self.weigh(row);
             let Some(coming) = self.entering(sign) else {
+                if self.call(alloc, row, sign)? {
+                    continue;
+                }
                 return self.shown_by(alloc, row, sign);
             };
             if !self.let_in(alloc, row, coming)? {

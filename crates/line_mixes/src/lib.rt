@@ -4,6 +4,7 @@
 
 mod barren;
 mod borrowing;
+mod calling;
 mod columns;
 mod dual;
 mod evening;

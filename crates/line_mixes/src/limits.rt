@@ -59,3 +59,7 @@ pub(crate) const DEARER: f64 = 0.1;
 pub(crate) const DEAREST: f64 = 100.0;
 /// An amount above this is off.
 pub(crate) const WILD: f64 = 1_000_000.0;
+/// How many lines a master calls near in one go; and with how many that are near it goes on with those alone that have rows.
+pub(crate) const CALLED: usize = 300;
+
+pub(crate) const CROWDED: usize = 3_000;

@@ -12,19 +12,20 @@ use std::alloc::Global;
 use std::num::{nearest_i64_to_f64, saturating_f64_to_i64};
 
 /// A kept line that may have a share: its member and number, where its pairings stand, what it costs (by chance), and whether it is
-/// barred, and has a row.
+/// barred, is near, and has a row.
 #[derive(Clone, Copy)]
 pub(crate) struct Choice {
-    pub member: usize,
-    pub place: usize,
-    pub from: usize,
-    pub to: usize,
+    pub member: u32,
+    pub place: u32,
+    pub from: u32,
+    pub to: u32,
     pub cost: f64,
     pub is_barred: bool,
+    pub is_near: bool,
     pub is_basic: bool,
 }
 
-/// A line that is not barred: its number, the column of its member, where its pairings stand, by how much it costs more than it is
+/// A line that is near and not barred: its number, the column of its member, where its pairings stand, by how much it costs more than it is
 /// worth (its reduced cost), and what one of it takes from the row that was looked at last. All go through these, one behind the other.
 #[derive(Clone, Copy)]
 pub(crate) struct Open {
@@ -37,8 +38,8 @@ pub(crate) struct Open {
 }
 
 /// A row for each pairing, and behind these one for each member: what is needed there, which line has the row, if one has, how much
-/// of it, the row of the inverse, and the sum of its squares. The lines, and those of them that are not barred; and how often a line came
-/// in since the rows were worked out.
+/// of it, the row of the inverse, and the sum of its squares. The lines, and those of them that are near and not barred: others are called
+/// near where these do not suffice (sifting), from where the last call ended. And how often a line came in since the rows were worked out.
 #[derive(Drop)]
 pub struct Master {
     pub(crate) pairings: usize,
@@ -50,16 +51,17 @@ pub struct Master {
     pub(crate) choices: Vec<Choice>,
     pub(crate) flown: Vec<u32>,
     pub(crate) open: Vec<Open>,
+    pub(crate) called: usize,
     pub(crate) changes: u32,
     joined: Vec<usize>,
 }
 
 /// What a line costs at first, from 0 to 1, as if by chance.
-pub(crate) fn chance(member: usize, place: usize) -> f64 {
-    let mixed = number(place)
+pub(crate) fn chance(member: u32, place: u32) -> f64 {
+    let mixed = place
         .wrapping_add(1)
         .wrapping_mul(2_654_435_769)
-        .wrapping_add(number(member).wrapping_mul(1_640_531_527));
+        .wrapping_add(member.wrapping_mul(1_640_531_527));
     let mixed = (mixed ^ mixed >> 15).wrapping_mul(2_246_822_519);
     nearest_i64_to_f64(i64::from(mixed >> 16)) / 65_536.0
 }
@@ -82,6 +84,7 @@ impl Master {
             choices: Vec::new(alloc),
             flown: Vec::new(alloc),
             open: Vec::new(alloc),
+            called: 0,
             changes: 0,
             joined: vec![in alloc; 0usize; problem.base.members.len()]?,
         };
@@ -109,22 +112,30 @@ impl Master {
 
     /// The pairings of a line.
     pub(crate) fn pairings_of(&self, choice: &Choice) -> &[u32] {
-        self.flown.get(choice.from..choice.to).unwrap_or(&[])
+        let (from, to) = (choice.from as usize, choice.to as usize);
+        self.flown.get(from..to).unwrap_or(&[])
+    }
+
+    /// The column of the line's member.
+    pub(crate) fn own(&self, choice: &Choice) -> usize {
+        self.pairings.saturating_add(choice.member as usize)
     }
 
     /// Lets a kept line join, which is barred.
     fn add(&mut self, kept: &Kept, member: usize, place: usize) -> Result<(), Memory> {
-        let from = self.flown.len();
+        let from = number(self.flown.len());
         for pairing in kept.pairings(member, place) {
             self.flown.push(*pairing)?;
         }
+        let (member, place) = (number(member), number(place));
         self.choices.push(Choice {
             member,
             place,
             from,
-            to: self.flown.len(),
+            to: number(self.flown.len()),
             cost: chance(member, place),
             is_barred: true,
+            is_near: true,
             is_basic: false,
         })?;
         Ok(())
@@ -159,24 +170,18 @@ impl Master {
         board: &Board,
     ) -> Result<(), Memory> {
         let is_dear = self.choices.iter().any(|choice| choice.cost > DEAREST);
+        let is_crowded = self.is_crowded();
         self.open.truncate(0);
         for (number, choice) in self.choices.iter_mut().enumerate() {
-            let row = board.row(choice.member);
-            choice.is_barred = !kept.may_fly(choice.member, choice.place, goal, &row);
+            let (member, place) = (choice.member as usize, choice.place as usize);
+            choice.is_barred = !kept.may_fly(member, place, goal, &board.row(member));
+            choice.is_near = choice.is_basic || choice.is_near && !is_crowded;
             if is_dear {
                 choice.cost = chance(choice.member, choice.place);
             }
-            if choice.is_barred {
-                continue;
+            if choice.is_near && !choice.is_barred {
+                self.open.push(Open::new(self.pairings, number, choice))?;
             }
-            self.open.push(Open {
-                number,
-                own: self.pairings.saturating_add(choice.member),
-                from: choice.from,
-                to: choice.to,
-                rest: 0.0,
-                part: 0.0,
-            })?;
         }
         self.refresh(alloc)
     }
@@ -189,9 +194,9 @@ impl Master {
                 continue;
             };
             let part = saturating_f64_to_i64((*amount * nearest_i64_to_f64(WHOLE)).round());
-            if choice.member == member && *amount > CHOSEN && part > 0 && part <= WHOLE {
+            if choice.member as usize == member && *amount > CHOSEN && part > 0 && part <= WHOLE {
                 shares.push(Share {
-                    place: choice.place,
+                    place: choice.place as usize,
                     part,
                 })?;
             }

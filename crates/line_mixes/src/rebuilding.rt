@@ -1,7 +1,7 @@
 //! The rows of a master: how they change where a line comes in, and how they are worked out anew, since errors add up.
 
-use crate::limits::{DEARER, SINGULAR};
-use crate::master::{Master, chance, sum_at};
+use crate::limits::SINGULAR;
+use crate::master::Master;
 use crate::program::subtract;
 use crate::simplex::{at, line_change, sweep};
 use duty_calendar::Memory;
@@ -17,11 +17,15 @@ fn unit_row(alloc: Global, rows: usize, row: usize) -> Result<Vec<f64>, Memory> 
     Ok(unit)
 }
 
-/// The sum of the squares of a row.
+/// The sum of the squares of a row, by fours, which do not wait for one another.
 fn square(row: &[f64]) -> f64 {
+    let (fours, rest) = row.as_chunks::<4>();
     let mut sum = 0.0;
-    for cell in row {
+    for cell in rest {
         sum += *cell * *cell;
+    }
+    for [one, two, three, four] in fours {
+        sum += (*one * *one + *two * *two) + (*three * *three + *four * *four);
     }
     sum
 }
@@ -43,7 +47,7 @@ impl Master {
     }
 
     /// What each row is worth by what the lines cost that have rows.
-    fn worth(&self, alloc: Global) -> Result<Vec<f64>, Memory> {
+    pub(crate) fn worth(&self, alloc: Global) -> Result<Vec<f64>, Memory> {
         let mut worth = vec![in alloc; 0.0; self.needs.len()]?;
         for (basic, row) in self.basis.iter().zip(self.inverse.iter()) {
             if let Some(choice) = basic.and_then(|number| self.choices.get(number)) {
@@ -53,25 +57,19 @@ impl Master {
         Ok(worth)
     }
 
-    /// Works out anew by how much the lines that are not barred cost more than they are worth. One that is worth more costs a little
-    /// more than that from now on.
+    /// Works out anew by how much the lines that are near cost more than they are worth.
     pub(crate) fn refresh(&mut self, alloc: Global) -> Result<(), Memory> {
         let worth = self.worth(alloc)?;
         for open in self.open.iter_mut() {
             let Some(choice) = self.choices.get_mut(open.number) else {
                 continue;
             };
-            open.rest = 0.0;
-            if choice.is_basic {
-                continue;
-            }
             let flown = self.flown.get(open.from..open.to).unwrap_or(&[]);
-            open.rest = choice.cost - sum_at(&worth, flown, open.own);
-            if open.rest < 0.0 {
-                let more = chance(choice.member, choice.place) * DEARER - open.rest;
-                choice.cost += more;
-                open.rest += more;
-            }
+            open.rest = if choice.is_basic {
+                0.0
+            } else {
+                choice.rest(flown, open.own, &worth)
+            };
         }
         Ok(())
     }
@@ -80,7 +78,7 @@ impl Master {
     pub(crate) fn change(&self, alloc: Global, number: usize) -> Result<Vec<f64>, Memory> {
         match self.choices.get(number) {
             Some(choice) => {
-                let own = self.pairings.saturating_add(choice.member);
+                let own = self.own(choice);
                 line_change(alloc, &self.inverse, self.pairings_of(choice), own)
             }
             None => Ok(vec![in alloc; 0.0; self.needs.len()]?),
